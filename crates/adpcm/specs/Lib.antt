@@ -1,0 +1,6 @@
+pub mod Places
+pub mod Step
+pub mod Context
+pub mod Decode
+pub mod Runs
+pub mod Answer

@@ -1,0 +1,1 @@
+// The worked examples: the crate is its specs/, and the proof that every row holds.

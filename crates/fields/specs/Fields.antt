@@ -1,0 +1,32 @@
+-- Fields of a list of bytes, little-endian; sections of it; and what a writer leaves. Assumes nothing.
+use mathlib.Core.Bool.{cond}
+use mathlib.Core.List.{List, [], _∷_, _++_}
+use Prim.Native.Nat.{ℕ, zero, suc, _+_, _*_, _/_, _%_}
+use lib.Dec.{leb}
+use lib.ListN.{length, take, drop, getD}
+
+-- the number that the w bytes from o on are, the lowest first
+unfoldable pub le : ℕ → List ℕ → ℕ → ℕ
+le zero d o = 0
+le (suc w) d o = getD d o 0 + 256 * le w d (o + 1)
+
+-- a field of w bytes, 0 where it reaches past the end
+unfoldable pub fieldAt : ℕ → List ℕ → ℕ → ℕ
+fieldAt w d o = cond (leb (o + w) (length d)) (le w d o) 0
+
+-- a part of the input, empty where it reaches past the end
+unfoldable pub sectionOf : List ℕ → ℕ → ℕ → List ℕ
+sectionOf s at n = cond (leb (at + n) (length s)) (take n (drop at s)) []
+
+-- the input from a place on
+unfoldable pub restOf : List ℕ → ℕ → List ℕ
+restOf s at = drop at s
+
+-- the w low bytes of v, the lowest first
+unfoldable pub bytesOf : ℕ → ℕ → List ℕ
+bytesOf zero v = []
+bytesOf (suc w) v = v % 256 ∷ bytesOf w (v / 256)
+
+-- r in place of as many bytes of d from o on
+unfoldable pub putBytes : List ℕ → ℕ → List ℕ → List ℕ
+putBytes d o r = take o d ++ r ++ drop (o + length r) d

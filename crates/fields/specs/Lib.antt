@@ -1,0 +1,4 @@
+pub mod Fields
+pub mod Reads
+pub mod Sections
+pub mod Writes

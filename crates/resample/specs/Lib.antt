@@ -1,0 +1,4 @@
+pub mod Defs
+pub mod Laws
+pub mod Exact
+pub mod Range

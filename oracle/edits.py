@@ -1,0 +1,30 @@
+#!/usr/bin/env python3
+"""edits.py FROM TO: copies kirikae's audio sources from FROM to TO with the edits that document 01 names. An edit whose text
+does not stand in its file exactly once stops the build, so that the oracle is never something else unnoticed."""
+import os
+import sys
+
+EDITS = {
+    "dsp.rs": [
+        # Three samples (needed is 0): the Rust reads past them and panics; the missing fourth point equals the third.
+        ("let p3 = input[i + 3];", "let p3 = input.get(i + 3).copied().unwrap_or(p2);"),
+    ],
+    "mixer.rs": [
+        # Rounds are counted where a round gets past its first test.
+        ("let wb = self.buffers[self.index];", "crate::count_round();\n            let wb = self.buffers[self.index];"),
+    ],
+}
+# What is appended to a file, to read and write what is private in it.
+APPENDED = {"mixer.rs": "mixer_probe.rs"}
+
+source, target = sys.argv[1:3]
+for name, edits in EDITS.items():
+    text = open(f"{source}/{name}").read()
+    for old, new in edits:
+        found = text.count(old)
+        if found != 1:
+            sys.exit(f"edits.py: {name}: {old!r} stands there {found} times, not once")
+        text = text.replace(old, new)
+    if name in APPENDED:
+        text += open(f"{os.path.dirname(os.path.abspath(__file__))}/{APPENDED[name]}").read()
+    open(f"{target}/{name}", "w").write(text)

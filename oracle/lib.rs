@@ -1,0 +1,47 @@
+//! kirikae's audio renderer, as oracle/edits.py leaves it.
+pub mod dsp;
+pub mod mixer;
+
+use std::cell::Cell;
+
+thread_local! {
+    static ROUNDS: Cell<u64> = const { Cell::new(0) };
+}
+
+/// Counts a round of `fetch` that got past its first test.
+pub fn count_round() {
+    ROUNDS.set(ROUNDS.get() + 1);
+}
+
+/// The rounds counted since the last call.
+pub fn take_rounds() -> u64 {
+    ROUNDS.replace(0)
+}
+
+/// Stands where kirikae has guest memory; sample memory comes through `mixer::Mem`.
+pub mod mem {
+    pub struct GuestMemory;
+
+    impl GuestMemory {
+        pub fn read(&self, _addr: u64, _len: u64) -> Option<Vec<u8>> {
+            None
+        }
+    }
+}
+
+/// Sample memory: one slice at a base. A read succeeds if it lies wholly inside, or takes no byte.
+pub struct Memory<'a> {
+    pub base: u64,
+    pub bytes: &'a [u8],
+}
+
+impl mixer::Mem for Memory<'_> {
+    fn read(&self, addr: u64, len: u64) -> Option<Vec<u8>> {
+        if len == 0 {
+            return Some(Vec::new());
+        }
+        let at = usize::try_from(addr.checked_sub(self.base)?).ok()?;
+        let end = at.checked_add(usize::try_from(len).ok()?)?;
+        self.bytes.get(at..end).map(<[u8]>::to_vec)
+    }
+}
