@@ -21,6 +21,7 @@ impl Random {
     }
 
     /// A 16-bit number, one time in four an extreme one.
+    #[allow(dead_code)]
     pub fn word(&mut self) -> i16 {
         const EXTREMES: [i16; 9] = [i16::MIN, i16::MAX, -32767, 0, 1, -1, 2048, -2048, 16384];
         if self.below(4) == 0 { EXTREMES[self.below(9) as usize] } else { self.next() as i16 }

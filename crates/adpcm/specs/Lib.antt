@@ -3,4 +3,5 @@ pub mod Step
 pub mod Context
 pub mod Decode
 pub mod Runs
+pub mod Counts
 pub mod Answer

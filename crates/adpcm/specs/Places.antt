@@ -1,10 +1,10 @@
 -- Where a sample stands, by the format's description: sample n is at nibble 16 × (n div 14) + (n mod 14), plus 2 if n mod 14 is not 0. Assumes nothing.
-use Prim.Native.Nat.{ℕ, zero, suc, _+_, _*_, _/_, _%_, _≤_, _<_}
+use Prim.Native.Nat.{ℕ, zero, suc, _+_, _-_, _*_, _/_, _%_, _≤_, _<_}
 use native.Mathlib.Omega.{arith}
 use mathlib.Core.Path.{_≡_, refl}
 use mathlib.Core.Logic.{_⊎_, inl, inr, ⊎-elim}
 use mathlib.Core.Bool.{Bool, true, false, cond}
-use borrow.Author.Tests.{eqb-true, eqb-false}
+use borrow.Author.Tests.{eqb-true, eqb-false, eq-eqb, ne-eqb}
 use lib.Dec.{eqb}
 
 unfoldable pub nibbleOf : ℕ → ℕ
@@ -13,6 +13,10 @@ nibbleOf n = 16 * (n / 14) + n % 14 + cond (eqb (n % 14) 0) 0 2
 -- the bytes that hold the nibbles before sample n: half as many, rounded up
 unfoldable pub sizeOf : ℕ → ℕ
 sizeOf n = (nibbleOf n + 1) / 2
+
+-- the samples that b bytes hold: 14 for each whole frame, and two for each byte after the header of the last
+unfoldable pub heldOf : ℕ → ℕ
+heldOf b = 14 * (b / 8) + (2 * (b % 8) - 2)
 
 -- ---- laws
 
@@ -63,3 +67,12 @@ size-odd n h = omega arith
 pub size-mono : (a b : ℕ) → a ≤ b → sizeOf a ≤ sizeOf b
 unfolding sizeOf
 size-mono a b h = omega (arith, nibble-mono a b h)
+
+-- b bytes hold sample m if and only if they reach past its byte, and at a frame's first sample past its header's byte too
+pub held-more : (b m : ℕ) → nibbleOf m / 2 + cond (eqb (m % 14) 0) 1 0 < b → m < heldOf b
+unfolding heldOf
+held-more b m = by-case m (λ p e. rw (eq-eqb (m % 14) 0 p) (λ h. omega arith)) (λ p e. rw (ne-eqb (m % 14) 0 (λ z. omega arith)) (λ h. omega arith))
+
+pub held-less : (b m : ℕ) → b ≤ nibbleOf m / 2 + cond (eqb (m % 14) 0) 1 0 → heldOf b ≤ m
+unfolding heldOf
+held-less b m = by-case m (λ p e. rw (eq-eqb (m % 14) 0 p) (λ h. omega arith)) (λ p e. rw (ne-eqb (m % 14) 0 (λ z. omega arith)) (λ h. omega arith))

@@ -3,12 +3,14 @@ ghost use Prim.Native.Nat.{_/_, _≤_, _^_};
 ghost use lib.ListN.{length};
 ghost use Rattle.adpcm.specs.Places.{nibbleOf};
 ghost use Rattle.adpcm.specs.Decode.{halfOf, valueOf, tookOf, runOf, Decodes};
+ghost use Rattle.adpcm.specs.Runs.{countOf};
 ghost use Rattle.adpcm.specs.Answer.{seen, outcomeOf};
 use crate::context::AdpcmContext;
 use crate::places::Byte;
 use crate::places::Sample;
 use crate::places::adpcm_nibble;
 use crate::places::adpcm_nibble_byte;
+use crate::places::adpcm_size_samples;
 use crate::step::step;
 
 // What one sample leaves: the bytes had run out, or history0 is the sample.
@@ -74,6 +76,20 @@ fn take_one(data: &[u8], base: Byte, m: Sample, coefficients: &[i16; 16], ctx: A
     } else {
         let high = adpcm_nibble(m).is_high();
         take_value(data, at, high, coefficients, ctx)
+    }
+}
+
+// How many of want samples from start on a slice of so many bytes holds. Its first byte is the one that holds the start's nibble.
+pub fn adpcm_count(bytes: u64, start: Sample, want: u32) -> u32
+    requires { ⌜ (start .0 ≤ 2 ^ 60) × (bytes ≤ 2 ^ 60) ⌝ }
+    ensures { λ r. ⌜ r ≡ countOf bytes (start .0) want ⌝ }
+{
+    let end = adpcm_nibble_byte(start).plus(bytes);
+    let left = adpcm_size_samples(end).past(start);
+    if left < want as u64 {
+        left as u32
+    } else {
+        want
     }
 }
 

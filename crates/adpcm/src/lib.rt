@@ -4,6 +4,8 @@ pub const ADPCM_SAMPLES_PER_FRAME: u64 = 14;
 
 const ADPCM_NIBBLES_PER_FRAME: u64 = 16;
 
+const ADPCM_BYTES_PER_FRAME: u64 = 8;
+
 mod context;
 mod decode;
 mod places;
@@ -13,6 +15,7 @@ pub use context::AdpcmContext;
 pub use context::coefficients;
 pub use decode::AdpcmAnswer;
 pub use decode::Decoded;
+pub use decode::adpcm_count;
 pub use decode::decode_adpcm;
 pub use decode::decode_adpcm_checked;
 pub use places::Byte;
@@ -21,3 +24,4 @@ pub use places::Sample;
 pub use places::adpcm_nibble;
 pub use places::adpcm_nibble_byte;
 pub use places::adpcm_size;
+pub use places::adpcm_size_samples;

@@ -3,7 +3,8 @@
 ghost use mathlib.Core.Path.{_≡_};
 ghost use Prim.Native.Nat.{_+_, _-_, _/_, _%_, _≤_, _<_, _^_};
 ghost use lib.Dec.{eqb};
-ghost use Rattle.adpcm.specs.Places.{nibbleOf, sizeOf};
+ghost use Rattle.adpcm.specs.Places.{nibbleOf, sizeOf, heldOf};
+use crate::ADPCM_BYTES_PER_FRAME;
 use crate::ADPCM_NIBBLES_PER_FRAME;
 use crate::ADPCM_SAMPLES_PER_FRAME;
 
@@ -20,6 +21,17 @@ impl Sample {
         ensures { λ r. ⌜ r .0 ≡ self .0 + n ⌝ }
     {
         Sample(self.0 + n)
+    }
+
+    // How many samples it is past another; 0 where it is not.
+    pub fn past(self, other: Sample) -> u64
+        ensures { λ r. ⌜ r ≡ self .0 - other .0 ⌝ }
+    {
+        if other.0 < self.0 {
+            self.0 - other.0
+        } else {
+            0
+        }
     }
 
     // Whether it is the first of a frame, and the frame's header stands before it.
@@ -40,6 +52,14 @@ impl Nibble {
 }
 
 impl Byte {
+    // The byte n further on.
+    pub fn plus(self, n: u64) -> Byte
+        requires { ⌜ self .0 + n < 2 ^ 64 ⌝ }
+        ensures { λ r. ⌜ r .0 ≡ self .0 + n ⌝ }
+    {
+        Byte(self.0 + n)
+    }
+
     pub fn before(self) -> Byte
         requires { ⌜ 0 < self .0 ⌝ }
         ensures { λ r. ⌜ r .0 ≡ self .0 - 1 ⌝ }
@@ -77,6 +97,20 @@ pub fn adpcm_size(s: Sample) -> Byte
 {
     let n = adpcm_nibble(s);
     Byte((n.0 + 1) / 2)
+}
+
+// The samples that the bytes before b hold: the inverse of adpcm_size. A frame's first byte is its header.
+pub fn adpcm_size_samples(b: Byte) -> Sample
+    requires { ⌜ b .0 ≤ 2 ^ 62 ⌝ }
+    ensures { λ r. ⌜ r .0 ≡ heldOf (b .0) ⌝ }
+{
+    let frames = b.0 / ADPCM_BYTES_PER_FRAME * ADPCM_SAMPLES_PER_FRAME;
+    let in_frame = b.0 % ADPCM_BYTES_PER_FRAME;
+    if in_frame == 0 {
+        Sample(frames)
+    } else {
+        Sample(frames + 2 * in_frame - 2)
+    }
 }
 
 // The byte that holds the nibble at which sample s is reached.

@@ -4,11 +4,13 @@ use Prim.Native.Nat.{ℕ}
 use lib.IntN.{ℤ, pos, negsuc}
 use lib.Ieee.{binary32, fin, toBits}
 use lib.ListN.{replicate}
-use mathlib.Core.Bool.{false}
+use mathlib.Core.Bool.{Bool, true, false}
 use Rattle.adpcm.specs.Places.{sizeOf}
 use Rattle.adpcm.specs.Decode.{runOf}
 use Rattle.adpcm.specs.Answer.{none}
 use Rattle.resample.specs.Defs.{half, neededOf, nextOf}
+use Rattle.voice.specs.Wave.{offsetsValid}
+use Rattle.voice.specs.declared.wave.WaveBuffer.{WaveBuffer}
 use Rattle.adpcm.specs.declared.context.AdpcmContext.{AdpcmContext}
 
 pub record Row : Type 0 where
@@ -46,5 +48,30 @@ unfoldable pub p6 : Row
 p6 = let ratio = fin false 3 (negsuc 0) in
     record { gives = pos (neededOf half ratio 3) ∷ pos (toBits binary32 (nextOf half ratio 3)) ∷ []; says = pos 5 ∷ pos 0 ∷ [] }
 
+-- a wave buffer of 8 bytes that ends at a sample
+abbrev pub ending : ℕ → WaveBuffer
+ending end = record {
+  addr = 0;
+  size = 8;
+  start = 0;
+  end = end;
+  looping = false;
+  «end_of_stream» = false;
+  «loop_count» = 0;
+  context = 0;
+  «loop_start» = 0;
+  «loop_end» = 0;
+  pending = true;
+}
+
+-- 1 where the buffer is kept, 0 where it is dropped
+abbrev pub kept : Bool → ℤ
+kept true = pos 1
+kept false = pos 0
+
+-- 16-bit PCM, one channel
+unfoldable pub p7 : Row
+p7 = record { gives = kept (offsetsValid (ending 4) 2) ∷ kept (offsetsValid (ending 5) 2) ∷ []; says = pos 1 ∷ pos 0 ∷ [] }
+
 unfoldable pub table : List Row
-table = p1 ∷ p2 ∷ p3 ∷ p4 ∷ p5 ∷ p6 ∷ []
+table = p1 ∷ p2 ∷ p3 ∷ p4 ∷ p5 ∷ p6 ∷ p7 ∷ []

@@ -1,0 +1,191 @@
+//! Holds `prepare` and `fetch` to kirikae's mixer.rs, by a voice's rows: every field, the rows for the resampler and the rounds.
+//!
+//! `voice [SEED [COUNT]]` compares COUNT random voices and memories, and the counters at their limits among them.
+mod random;
+use oracle::mixer::probe::{FLOATS, LONGS, Probe, Rows, WORDS};
+use oracle::{Memory, take_rounds};
+use random::{Random, bits};
+
+#[repr(C)]
+struct ProbeContext {
+    pred_scale: u16,
+    history0: i16,
+    history1: i16,
+}
+
+unsafe extern "C" {
+    fn probe_prepare(
+        words: *mut u32, words_len: usize, longs: *mut u64, longs_len: usize, floats: *mut f32, floats_len: usize, contexts: *mut u16,
+        contexts_len: usize, history: *mut f32, history_len: usize,
+    ) -> u32;
+    fn probe_plan(
+        words: *mut u32, words_len: usize, longs: *mut u64, longs_len: usize, floats: *mut f32, floats_len: usize, base: u64, size: u64,
+        count: u32, buffers_v2: u32,
+    ) -> u32;
+    fn probe_fetch_row(
+        words: *const u32, words_len: usize, longs: *const u64, longs_len: usize, floats: *const f32, floats_len: usize,
+        contexts: *const u16, contexts_len: usize, history: *const f32, history_len: usize, base: u64, memory: *const u8,
+        memory_len: usize, buffers_v2: u32, c: u32, out: *mut f32, out_len: usize,
+    ) -> ProbeContext;
+    fn probe_offsets_valid(record: *const u8, record_len: usize, format: u32) -> u32;
+}
+
+const BASE: u64 = 0x10000;
+
+/// A counter: mostly small, sometimes near its limit.
+fn counter(r: &mut Random) -> u64 {
+    match r.below(4) {
+        0 => u64::MAX - r.below(4),
+        1 => u64::from(u32::MAX) - r.below(4),
+        2 => 0x8000_0000 - 2 + r.below(4),
+        _ => r.below(8),
+    }
+}
+
+/// An address: mostly in memory, sometimes before or after it, sometimes so far that a sum with a place goes round.
+fn address(r: &mut Random, len: u64) -> u64 {
+    match r.below(12) {
+        0 => BASE.wrapping_sub(r.below(64)),
+        1 => u64::MAX - r.below(64),
+        2 => BASE.wrapping_sub(24 * r.below(1 << 32)),
+        3 => r.next(),
+        _ => BASE + r.below(len + 1),
+    }
+}
+
+fn rows(r: &mut Random, len: u64, flush: u32) -> Rows {
+    let mut words = vec![0u32; WORDS];
+    let mut longs = vec![0u64; LONGS];
+    let flag = |r: &mut Random| r.below(2) as u32;
+    words[0] = flag(r);
+    words[1] = flag(r);
+    words[2] = r.below(4) as u32;
+    words[3] = [2, 5, 6, 6, 2, 0, 9][r.below(7) as usize];
+    words[4] = r.next() as u32;
+    words[5] = 1 + r.below(6) as u32;
+    words[6] = r.below(5) as u32;
+    words[7] = r.below(4) as u32;
+    words[8] = flush;
+    words[9] = r.below(1 << 16) as u32;
+    words[10] = r.next() as u32;
+    words[11] = r.next() as u32;
+    for k in 12..18 {
+        words[k] = r.below(64) as u32;
+    }
+    for k in 18..22 {
+        words[k] = u32::from(r.below(4) != 0);
+    }
+    words[22] = r.below(4) as u32;
+    words[23] = counter(r) as u32;
+    words[24] = if r.below(3) == 0 { r.below(20) as u32 } else if r.below(8) == 0 { r.next() as u32 } else { 0 };
+    words[25] = counter(r) as u32;
+    longs[0] = address(r, len);
+    longs[1] = counter(r);
+    for b in 0..4 {
+        let (w, l) = (26 + b * 8, 2 + b * 3);
+        let short = |r: &mut Random| if r.below(16) == 0 { r.next() as u32 } else { r.below(50) as u32 };
+        words[w] = short(r);
+        words[w + 1] = words[w].wrapping_add(short(r));
+        words[w + 2] = flag(r);
+        words[w + 3] = flag(r);
+        words[w + 4] = counter(r) as u32;
+        words[w + 5] = short(r);
+        words[w + 6] = short(r);
+        words[w + 7] = flag(r);
+        longs[l] = address(r, len);
+        longs[l + 1] = if r.below(8) == 0 { r.next() } else { r.below(512) };
+        longs[l + 2] = if r.below(3) == 0 { 0 } else { address(r, len) };
+    }
+    let floats = (0..FLOATS).map(|k| if k == 3 { r.below(1 << 24) as f32 / (1 << 24) as f32 } else { r.float() }).collect();
+    let context = (0..3).map(|_| r.next() as u16).collect();
+    let history = (0..18).map(|_| r.float()).collect();
+    Rows { words, longs, floats, context, history }
+}
+
+/// What is compared of a voice, with every NaN as one.
+fn seen(v: &Rows) -> (Vec<u32>, Vec<u64>, Vec<u32>, Vec<u16>, Vec<u32>) {
+    let all = |s: &[f32]| s.iter().map(|&x| bits(x)).collect();
+    (v.words.clone(), v.longs.clone(), all(&v.floats), v.context.clone(), all(&v.history))
+}
+
+fn main() {
+    let args: Vec<String> = std::env::args().skip(1).collect();
+    let number = |k: usize, d| args.get(k).map_or(d, |a| a.parse().expect("a number"));
+    let (r, count) = (&mut Random(number(0, 1)), number(1, 200_000));
+    let (mut compared, mut differ, mut rounds, mut most, mut ready) = (0u64, 0u64, 0u64, 0u64, 0u64);
+    let mut tell = |what: &str, same: bool, before: &Rows| {
+        compared += 1;
+        if !same {
+            differ += 1;
+            if differ < 6 {
+                println!("differs: {what}: {before:?}");
+            }
+        }
+    };
+    for k in 0..count {
+        let size = [0, 6, 40, 400, 2000][r.below(5) as usize];
+        let memory = r.bytes(size);
+        let flush = if k % 5000 == 0 { 1_000_000 + r.below(4) as u32 } else { r.below(7) as u32 };
+        let before = rows(r, memory.len() as u64, flush);
+
+        let (mut probe, mut port) = (Probe::new(&before), before.clone());
+        let oracle_ready = probe.prepare();
+        let p = &mut port;
+        let port_ready = unsafe {
+            probe_prepare(
+                p.words.as_mut_ptr(), WORDS, p.longs.as_mut_ptr(), LONGS, p.floats.as_mut_ptr(), FLOATS, p.context.as_mut_ptr(), 3,
+                p.history.as_mut_ptr(), 18,
+            )
+        };
+        ready += u64::from(oracle_ready);
+        tell("prepare", seen(&port) == seen(&probe.rows()) && (port_ready != 0) == oracle_ready, &before);
+
+        let needed = [0, 1, 5, 14, 60, 240, 4097][r.below(7) as usize];
+        let v2 = r.below(2) == 0;
+        let (mut probe, mut port) = (Probe::new(&before), before.clone());
+        take_rounds();
+        let src = probe.fetch(&Memory { base: BASE, bytes: &memory }, needed, v2);
+        let spent = take_rounds();
+        let (channels, width) = (before.words[5] as usize, 3 + needed);
+        let mut out = vec![0.25f32; channels * width];
+        let (b, size) = (&before, memory.len());
+        for c in 0..channels {
+            let row = out[c * width..].as_mut_ptr();
+            let x = unsafe {
+                probe_fetch_row(
+                    b.words.as_ptr(), WORDS, b.longs.as_ptr(), LONGS, b.floats.as_ptr(), FLOATS, b.context.as_ptr(), 3,
+                    b.history.as_ptr(), 18, BASE, memory.as_ptr(), size, u32::from(v2), c as u32, row, width,
+                )
+            };
+            if c == 0 {
+                port.context = vec![x.pred_scale, x.history0 as u16, x.history1 as u16];
+            }
+        }
+        let p = &mut port;
+        let port_rounds = unsafe {
+            probe_plan(
+                p.words.as_mut_ptr(), WORDS, p.longs.as_mut_ptr(), LONGS, p.floats.as_mut_ptr(), FLOATS, BASE, size as u64, needed as u32,
+                u32::from(v2),
+            )
+        };
+        let rows_same = (0..channels).all(|c| src[c].iter().map(|&x| bits(x)).eq(out[c * width..(c + 1) * width].iter().map(|&x| bits(x))));
+        tell("fetch", seen(&port) == seen(&probe.rows()) && u64::from(port_rounds) == spent && rows_same, &before);
+        rounds += spent;
+        most += u64::from(spent == 64);
+
+        let mut record = r.bytes(0x38);
+        if r.below(2) == 0 {
+            record[8..16].copy_from_slice(&r.below(200).to_le_bytes());
+            record[0x10..0x14].copy_from_slice(&(r.below(100) as u32).to_le_bytes());
+            record[0x14..0x18].copy_from_slice(&(r.below(100) as u32).to_le_bytes());
+        }
+        let format = before.words[3];
+        let valid = unsafe { probe_offsets_valid(record.as_ptr(), record.len(), format) } != 0;
+        tell("offsets_valid", valid == oracle::mixer::probe::offsets_valid(&record, format as u8), &before);
+    }
+    println!("prepare, fetch and offsets_valid of {count} voices ({ready} ready, {rounds} rounds, {most} fetches of 64)");
+    println!("{compared} compared, {differ} differ");
+    if differ != 0 {
+        std::process::exit(1);
+    }
+}

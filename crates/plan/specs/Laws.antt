@@ -1,0 +1,128 @@
+-- What the functions of a plan put together is what their definitions say. Assumes nothing.
+use Prim.Native.Nat.{ℕ, _+_, _-_, _*_, _/_, _%_, _^_, min}
+use mathlib.Core.Bool.{Bool, true, cond, not}
+use mathlib.Core.Path.{_≡_, ap, sym, _∙_}
+use borrow.Author.Tests.{eq-eqb, ne-eqb}
+use lib.Dec.{leb, eqb}
+use Rattle.memory.specs.Memory.{readableOf}
+use Rattle.adpcm.specs.Places.{nibbleOf, sizeOf}
+use Rattle.adpcm.specs.Runs.{countOf}
+use Rattle.voice.specs.Queue.{bufferAt}
+use Rattle.voice.specs.declared.wave.WaveBuffer.{WaveBuffer}
+use Rattle.voice.specs.declared.queue.Queue.{Queue}
+use Rattle.plan.specs.declared.Source.{Source}
+use Rattle.plan.specs.declared.Act.{Act}
+use Rattle.plan.specs.declared.Decode.the-variants.{Nothing, Pcm, Adpcm, Silence}
+use Rattle.plan.specs.declared.attempt.Got.{Got}
+use Rattle.plan.specs.declared.attempt.Got.the-variants.{Missing, Samples}
+use Rattle.plan.specs.declared.attempt.Attempt.{Attempt}
+use Rattle.plan.specs.declared.rounds.Moved.{Moved}
+use Rattle.plan.specs.Attempt.{noSamples, pcmPlan, adpcmPlan, decodePlan}
+use Rattle.plan.specs.Rounds.{renewsOf, inLoop, loopsOver, resetsPlayed, at, endIf, resetIf, afterMissing, afterLoop, spanOver, afterGot, roundOf, roundPlan}
+
+-- ---- decodes
+
+-- the frames there are, and whether they can be read
+pub pcm-made : (width : ℕ) (s : Source) (w : WaveBuffer) (pos want : ℕ) {n addr : ℕ} {e b : Bool}
+    → n ≡ min want (w .size / (width * s .channels) - pos) → eqb n 0 ≡ e → addr ≡ (w .addr + pos * (width * s .channels)) % 2 ^ 64
+    → readableOf (s .base) (s .size) addr (n * (width * s .channels)) ≡ b
+    → cond e noSamples (cond b (record { got = Samples n; decode = Pcm width addr n }) noSamples) ≡ pcmPlan width s w pos want
+unfolding pcmPlan
+pcm-made width s w pos want hn he ha hb = λ i.
+    cond ((sym he ∙ ap (λ (x : ℕ). eqb x 0) hn) i) noSamples
+    (cond ((sym hb ∙ (λ j. readableOf (s .base) (s .size) (ha j) (hn j * (width * s .channels)))) i)
+    (record { got = Samples (hn i); decode = Pcm width (ha i) (hn i) })
+    noSamples)
+
+-- the bytes from first to last, whether there are any, whether they can be read, and how many samples they hold
+pub adpcm-made : (s : Source) (w : WaveBuffer) (pos want : ℕ) {first last addr n : ℕ} {e b z : Bool}
+    → first ≡ nibbleOf pos / 2 → last ≡ min (sizeOf (pos + want)) (w .size) → leb last first ≡ e → addr ≡ (w .addr + first) % 2 ^ 64
+    → readableOf (s .base) (s .size) addr (last - first) ≡ b → n ≡ countOf (last - first) pos want → eqb n 0 ≡ z
+    → cond e noSamples (cond b (record { got = cond z Missing (Samples n); decode = Adpcm addr (last - first) pos want }) noSamples) ≡ adpcmPlan s w pos want
+unfolding adpcmPlan
+adpcm-made s w pos want {n = n} hf hl he ha hb hn hz =
+    let m = hn ∙ (λ j. countOf (hl j - hf j) pos want) in
+    let a = ha ∙ (λ j. (w .addr + hf j) % 2 ^ 64) in
+    λ i.
+    cond ((sym he ∙ (λ j. leb (hl j) (hf j))) i) noSamples
+    (cond ((sym hb ∙ (λ j. readableOf (s .base) (s .size) (a j) (hl j - hf j))) i)
+    (record { got = cond ((sym hz ∙ (λ j. eqb (m j) 0)) i) Missing (Samples (m i)); decode = Adpcm (a i) (hl i - hf i) pos want })
+    noSamples)
+
+module _ (s : Source) (w : WaveBuffer) (pos want : ℕ) where
+  -- by the format
+  pub decode-none : want ≡ 0 → record { got = Samples 0; decode = Nothing } ≡ decodePlan s w pos want
+  unfolding decodePlan
+  decode-none h = rw (eq-eqb want 0 h)
+
+  pub decode-pcm16 : (want ≡ 0 → ⊥) → s .format ≡ 2 → pcmPlan 2 s w pos want ≡ decodePlan s w pos want
+  unfolding decodePlan
+  decode-pcm16 h e = rw (ne-eqb want 0 h, e)
+
+  pub decode-float : (want ≡ 0 → ⊥) → s .format ≡ 5 → pcmPlan 4 s w pos want ≡ decodePlan s w pos want
+  unfolding decodePlan
+  decode-float h e = rw (ne-eqb want 0 h, e)
+
+  pub decode-adpcm : (want ≡ 0 → ⊥) → s .format ≡ 6 → adpcmPlan s w pos want ≡ decodePlan s w pos want
+  unfolding decodePlan
+  decode-adpcm h e = rw (ne-eqb want 0 h, e)
+
+  pub decode-other : (want ≡ 0 → ⊥) → (s .format ≡ 2 → ⊥) → (s .format ≡ 5 → ⊥) → (s .format ≡ 6 → ⊥)
+      → record { got = Samples want; decode = Silence want } ≡ decodePlan s w pos want
+  unfolding decodePlan
+  decode-other h h₂ h₅ h₆ = rw (ne-eqb want 0 h, ne-eqb (s .format) 2 h₂, ne-eqb (s .format) 5 h₅, ne-eqb (s .format) 6 h₆)
+
+-- ---- the queue after a round
+
+pub loop-made : (q : Queue) (s : Source) (w : WaveBuffer) (got : ℕ) {loops : ℕ} {over t : Bool} {ended : Queue}
+    → loops ≡ (q .loops + 1) % 2 ^ 32 → over ≡ loopsOver (s .«buffers_v2») (w .«loop_count») loops got → ended ≡ endIf over (at 0 (q .played) loops q)
+    → resetsPlayed (s .decoding) got ≡ t → resetIf t ended ≡ afterLoop q s w got
+unfolding afterLoop
+loop-made q s w got hl ho he ht =
+    let o = ho ∙ (λ j. loopsOver (s .«buffers_v2») (w .«loop_count») (hl j) got) in
+    let e = he ∙ (λ j. endIf (o j) (at 0 (q .played) (hl j) q)) in
+    λ i. resetIf (sym ht i) (e i)
+
+-- the span goes on, or has ended, in a loop or not
+pub got-made : (q : Queue) (s : Source) (w : WaveBuffer) (total got : ℕ) {offset played : ℕ} {over loop : Bool} {looped ended : Queue}
+    → offset ≡ (q .offset + got) % 2 ^ 32 → played ≡ (q .played + got) % 2 ^ 64 → spanOver offset total got ≡ over → w .looping ≡ loop
+    → looped ≡ afterLoop (at offset played (q .loops) q) s w got → ended ≡ afterMissing (at offset played (q .loops) q)
+    → cond over (cond loop (record { queue = looped; going = not (eqb got 0) }) (record { queue = ended; going = true }))
+    (record { queue = at offset played (q .loops) q; going = true }) ≡ afterGot q s w total got
+unfolding afterGot
+got-made q s w total got hx hp ho hl hq hm =
+    let l = hq ∙ (λ j. afterLoop (at (hx j) (hp j) (q .loops) q) s w got) in
+    let m = hm ∙ (λ j. afterMissing (at (hx j) (hp j) (q .loops) q)) in
+    λ i.
+    cond ((sym ho ∙ (λ j. spanOver (hx j) total got)) i)
+    (cond (sym hl i) (record { queue = l i; going = not (eqb got 0) }) (record { queue = m i; going = true }))
+    (record { queue = at (hx i) (hp i) (q .loops) q; going = true })
+
+-- ---- a round
+
+pub missing-made : (q : Queue) (s : Source) (w : WaveBuffer) (total : ℕ) (act : Act) {g : Got} {ended : Queue} → g ≡ Missing → ended ≡ afterMissing q
+    → record { queue = ended; got = 0; act = act; going = true } ≡ roundOf q s w total act g
+unfolding roundOf
+missing-made q s w total act hg he = rw (hg, he)
+
+pub samples-made : (q : Queue) (s : Source) (w : WaveBuffer) (total : ℕ) (act : Act) {g : Got} {n : ℕ} {m : Moved} → g ≡ Samples n → m ≡ afterGot q s w total n
+    → record { queue = m .queue; got = n; act = act; going = m .going } ≡ roundOf q s w total act g
+unfolding roundOf
+samples-made q s w total act hg hm = rw (hg, hm)
+
+pub round-made : (q : Queue) (s : Source) (left : ℕ) {renews looped : Bool} {start end total room want pos : ℕ} {tried : Attempt}
+    → let w = bufferAt q (q .index) in
+    renews ≡ renewsOf s w (q .offset) → looped ≡ inLoop (s .«buffers_v2») w (q .loops) → start ≡ cond looped (w .«loop_start») (w .start)
+    → end ≡ cond looped (w .«loop_end») (w .end) → total ≡ end - start → room ≡ total - q .offset → want ≡ min left room
+    → pos ≡ (start + q .offset) % 2 ^ 32 → tried ≡ decodePlan s w pos want
+    → roundOf q s w total (record { renews = renews; context = w .context; decode = tried .decode }) (tried .got) ≡ roundPlan q s left
+unfolding roundPlan
+round-made q s left hr hl hs he ht ho hw hp hd =
+    let w = bufferAt q (q .index) in
+    let s′ = hs ∙ (λ j. cond (hl j) (w .«loop_start») (w .start)) in
+    let e′ = he ∙ (λ j. cond (hl j) (w .«loop_end») (w .end)) in
+    let t′ = ht ∙ (λ j. e′ j - s′ j) in
+    let w′ = hw ∙ (λ j. min left ((ho ∙ (λ k. t′ k - q .offset)) j)) in
+    let p′ = hp ∙ (λ j. (s′ j + q .offset) % 2 ^ 32) in
+    let d′ = hd ∙ (λ j. decodePlan s w (p′ j) (w′ j)) in
+    λ i. roundOf q s w (t′ i) (record { renews = hr i; context = w .context; decode = d′ i .decode }) (d′ i .got)

@@ -1,0 +1,181 @@
+// A fetch: the position's part by a voice's rows, and the sound of a channel.
+ghost use mathlib.Core.Path.{_≡_};
+use crate::ProbeContext;
+use adpcm::AdpcmContext;
+use plan::Source;
+use voice::Queue;
+use voice::Voice;
+
+fn source_of(v: Voice, base: u64, size: u64, buffers_v2: bool) -> Source {
+    Source {
+        format: v.format,
+        channels: v.channels,
+        decoding: v.decoding,
+        data_source: v.data_source,
+        buffers_v2,
+        base,
+        size,
+    }
+}
+
+// A voice after a fetch's plan, and the rounds; 255 where a fetch requires more of it.
+struct Moved {
+    voice: Voice,
+    rounds: u32,
+}
+
+fn plan_voice(v: Voice, s: Source, count: u32) -> Moved {
+    if count > 65536 {
+        return Moved {
+            voice: v,
+            rounds: 255,
+        };
+    }
+    if v.index > 3 {
+        return Moved {
+            voice: v,
+            rounds: 255,
+        };
+    }
+    if s.channels == 0 {
+        return Moved {
+            voice: v,
+            rounds: 255,
+        };
+    }
+    if s.channels > 6 {
+        return Moved {
+            voice: v,
+            rounds: 255,
+        };
+    }
+    let p = plan::plan_fetch(voice::queue_of(v), s, count);
+    let q = p.queue;
+    let voice = voice::with_queue(v, q);
+    Moved {
+        voice,
+        rounds: p.rounds,
+    }
+}
+
+// The plan of a fetch, its queue stored. The rounds, or 255 where the rows are no voice's.
+#[no_mangle]
+pub extern "C" fn probe_plan(
+    words: &mut [u32],
+    longs: &mut [u64],
+    floats: &mut [f32],
+    base: u64,
+    size: u64,
+    count: u32,
+    buffers_v2: u32,
+) -> u32 {
+    if words.len() < 58 {
+        return 255;
+    }
+    if longs.len() < 14 {
+        return 255;
+    }
+    if floats.len() < 4 {
+        return 255;
+    }
+    let v = voice_rows::load_voice(words, longs, floats);
+    let m = plan_voice(v, source_of(v, base, size, buffers_v2 != 0), count);
+    let w = m.voice;
+    voice_rows::store_voice(w, words, 0, longs, 0, floats, 0);
+    m.rounds
+}
+
+// Plan and sound of channel c, into a row that begins with its history; as it is where a fetch requires more.
+pub fn fetch_row(
+    q: Queue,
+    s: Source,
+    memory: &[u8],
+    adpcm: AdpcmContext,
+    history: [f32; 3],
+    c: u32,
+    out: &mut [f32],
+) -> AdpcmContext {
+    if out.len() < 3 {
+        return adpcm;
+    }
+    if out.len() > 65536 {
+        return adpcm;
+    }
+    if q.index > 3 {
+        return adpcm;
+    }
+    if s.channels == 0 {
+        return adpcm;
+    }
+    if s.channels > 6 {
+        return adpcm;
+    }
+    if s.size != memory.len() as u64 {
+        return adpcm;
+    }
+    let count = (out.len() - 3) as u32;
+    let plan = plan::plan_fetch(q, s, count);
+    let table = sound::coefficients(memory, s, plan.table);
+    sound::fetch_channel(plan, s, memory, &table, adpcm, history, c, out)
+}
+
+// The sound of channel c of a voice's fetch, and the ADPCM context that is left.
+#[no_mangle]
+pub extern "C" fn probe_fetch_row(
+    words: &[u32],
+    longs: &[u64],
+    floats: &[f32],
+    contexts: &[u16],
+    history: &[f32],
+    base: u64,
+    memory: &[u8],
+    buffers_v2: u32,
+    c: u32,
+    out: &mut [f32],
+) -> ProbeContext {
+    if words.len() < 58 {
+        return nothing();
+    }
+    if longs.len() < 14 {
+        return nothing();
+    }
+    if floats.len() < 4 {
+        return nothing();
+    }
+    if contexts.len() < 3 {
+        return nothing();
+    }
+    if history.len() < 18 {
+        return nothing();
+    }
+    let v = voice_rows::load_voice(words, longs, floats);
+    let sound = voice_rows::load_sound(contexts, history);
+    let s = source_of(v, base, memory.len() as u64, buffers_v2 != 0);
+    let ctx = sound.adpcm;
+    let kept = sound.history;
+    let samples = kept.samples;
+    let first = three_of(samples, c);
+    let x = fetch_row(voice::queue_of(v), s, memory, ctx, first, c, out);
+    ProbeContext {
+        pred_scale: x.pred_scale,
+        history0: x.history0,
+        history1: x.history1,
+    }
+}
+
+fn nothing() -> ProbeContext {
+    ProbeContext {
+        pred_scale: 0,
+        history0: 0,
+        history1: 0,
+    }
+}
+
+// The history of channel c; zeros for one that there is none of.
+fn three_of(h: [f32; 18], c: u32) -> [f32; 3] {
+    if c > 5 {
+        return [0.0f32; 3];
+    }
+    let at = (c * 3) as usize;
+    [h[at], h[at + 1], h[at + 2]]
+}

@@ -1,0 +1,8 @@
+pub mod Fill
+pub mod Sound
+pub mod Parts
+pub mod Perform
+pub mod Channel
+pub mod Fused
+pub mod FusedDecode
+pub mod Fusing

@@ -1,0 +1,117 @@
+// One act of a plan, on one channel.
+ghost use mathlib.Core.Path.{_≡_};
+ghost use mathlib.Core.Bool.{cond};
+ghost use mathlib.Core.List.{[]};
+ghost use Rattle.memory.specs.Memory.{readOf};
+ghost use Rattle.adpcm.specs.Context.{contextOf};
+ghost use Rattle.plan.specs.declared.Decode.the-variants.{Adpcm};
+ghost use Rattle.sound.specs.Sound.{decodeAdpcm, decodeOn, perform};
+ghost use Rattle.sound.specs.Perform.{fresh, Room, RoomAt, Performed, PerformedAt};
+use crate::pcm::pcm;
+use crate::pcm::zeros;
+use adpcm::AdpcmContext;
+use adpcm::Sample;
+use plan::Act;
+use plan::Decode;
+use plan::Source;
+
+// What an act leaves: how many samples it made, and the ADPCM context.
+pub struct Played {
+    pub made: usize,
+    pub adpcm: AdpcmContext,
+}
+
+// ADPCM is decoded on channel 0; the others get as many zeros.
+fn play_adpcm(
+    addr: u64,
+    bytes: u64,
+    pos: u32,
+    want: u32,
+    s: Source,
+    memory: &[u8],
+    coefficients: &[i16; 16],
+    x: AdpcmContext,
+    c: u32,
+    out: &mut [f32],
+) -> Played
+    requires { ⌜ Room s (now memory) (Adpcm addr bytes pos want) (now out) ⌝ }
+    ensures { λ r. ⌜ Performed (decodeAdpcm c (readOf (s .base) (now (memory .entry)) addr bytes) pos want (now (coefficients .entry)) (fresh x)) (now (out .entry)) (now (out .exit)) (r .made) (r .adpcm) ⌝ }
+{
+    let start = Sample(pos as u64);
+    if c == 0 {
+        let d = memory::read(memory, s.base, addr, bytes);
+        let r = adpcm::decode_adpcm(d, start, want as usize, coefficients, x, out);
+        let left = r.context;
+        return Played {
+            made: r.done,
+            adpcm: left,
+        };
+    }
+    let n = adpcm::adpcm_count(bytes, start, want) as usize;
+    zeros(n, out);
+    Played { made: n, adpcm: x }
+}
+
+// A decode, into the front of out.
+fn play_decode(
+    decode: Decode,
+    s: Source,
+    memory: &[u8],
+    coefficients: &[i16; 16],
+    x: AdpcmContext,
+    c: u32,
+    out: &mut [f32],
+) -> Played
+    requires { ⌜ Room s (now memory) decode (now out) ⌝ }
+    ensures { λ r. ⌜ Performed (decodeOn s (now (memory .entry)) (now (coefficients .entry)) c decode (fresh x)) (now (out .entry)) (now (out .exit)) (r .made) (r .adpcm) ⌝ }
+{
+    match decode {
+        Decode::Nothing => Played { made: 0, adpcm: x },
+        Decode::Pcm(width, addr, n) => {
+            pcm(width, addr, n, s, memory, c, out);
+            Played {
+                made: n as usize,
+                adpcm: x,
+            }
+        }
+        Decode::Adpcm(addr, bytes, pos, want) => {
+            play_adpcm(addr, bytes, pos, want, s, memory, coefficients, x, c, out)
+        }
+        Decode::Silence(n) => {
+            zeros(n as usize, out);
+            Played {
+                made: n as usize,
+                adpcm: x,
+            }
+        }
+    }
+}
+
+// The ADPCM context that a buffer begins with, where one is read.
+fn renew(renews: bool, context: u64, base: u64, memory: &[u8], x: AdpcmContext) -> AdpcmContext
+    ensures { λ r. ⌜ r ≡ cond renews (contextOf (readOf base (now (memory .entry)) context 6)) x ⌝ }
+{
+    if renews {
+        return AdpcmContext::parse(memory::read(memory, base, context, 6));
+    }
+    x
+}
+
+// An act, into the row from a place on.
+pub fn play(
+    a: Act,
+    s: Source,
+    memory: &[u8],
+    coefficients: &[i16; 16],
+    x: AdpcmContext,
+    c: u32,
+    out: &mut [f32],
+    at: usize,
+) -> Played
+    requires { ⌜ RoomAt s (now memory) (a .decode) at (now out) ⌝ }
+    ensures { λ r. ⌜ PerformedAt at (perform s (now (memory .entry)) (now (coefficients .entry)) c a (fresh x)) (now (out .entry)) (now (out .exit)) (r .made) (r .adpcm) ⌝ }
+{
+    let y = renew(a.renews, a.context, s.base, memory, x);
+    let decode = a.decode;
+    play_decode(decode, s, memory, coefficients, y, c, &mut out[at..])
+}

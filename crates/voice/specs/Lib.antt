@@ -1,0 +1,9 @@
+pub mod Play
+pub mod Wave
+pub mod Queue
+pub mod Voice
+pub mod Sound
+pub mod Prepare
+pub mod Laws
+pub mod Slots
+pub mod Prepares

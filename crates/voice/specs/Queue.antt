@@ -1,0 +1,44 @@
+-- The queue of a voice's wave buffers, and the end of the one that plays (mixer.rs `end_buffer`).
+use Prim.Native.Nat.{ℕ, _+_, _%_, _^_}
+use mathlib.Core.Bool.{false, cond}
+use lib.ListN.{getD, set}
+use Rattle.voice.specs.declared.wave.WaveBuffer.{WaveBuffer}
+use Rattle.voice.specs.declared.queue.Queue.{Queue}
+
+-- a wave buffer of zeros, as a new voice has four
+abbrev pub noBuffer : WaveBuffer
+noBuffer = record {
+  addr = 0;
+  size = 0;
+  start = 0;
+  end = 0;
+  looping = false;
+  «end_of_stream» = false;
+  «loop_count» = 0;
+  context = 0;
+  «loop_start» = 0;
+  «loop_end» = 0;
+  pending = false;
+}
+
+abbrev pub bufferAt : Queue → ℕ → WaveBuffer
+bufferAt q k = getD (q .buffers) k noBuffer
+
+abbrev pub nextSlot : ℕ → ℕ
+nextSlot slot = (slot + 1) % 4
+
+-- one more, going round at 2^32
+abbrev pub more32 : ℕ → ℕ
+more32 n = (n + 1) % 2 ^ 32
+
+-- the buffer that plays has ended
+unfoldable pub endBuffer : Queue → Queue
+endBuffer q = record {
+  buffers = q .buffers;
+  valid = set (q .valid) (q .index) false;
+  index = nextSlot (q .index);
+  consumed = more32 (q .consumed);
+  offset = q .offset;
+  played = cond (bufferAt q (q .index) .«end_of_stream») 0 (q .played);
+  loops = 0;
+}
