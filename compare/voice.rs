@@ -1,6 +1,7 @@
 //! Holds `prepare` and `fetch` to kirikae's mixer.rs, by a voice's rows: every field, the rows for the resampler and the rounds.
 //!
 //! `voice [SEED [COUNT]]` compares COUNT random voices and memories, and the counters at their limits among them.
+//! `voice limits` compares one prepare with the largest flush count, which walks 2^32 - 1 turns on both sides (minutes).
 mod random;
 use oracle::mixer::probe::{FLOATS, LONGS, Probe, Rows, WORDS};
 use oracle::{Memory, take_rounds};
@@ -108,8 +109,28 @@ fn seen(v: &Rows) -> (Vec<u32>, Vec<u64>, Vec<u32>, Vec<u16>, Vec<u32>) {
     (v.words.clone(), v.longs.clone(), all(&v.floats), v.context.clone(), all(&v.history))
 }
 
+/// A prepare on both sides: whether the voice is ready, and the voice after it.
+fn prepares(before: &Rows) -> [(bool, Rows); 2] {
+    let (mut probe, mut port) = (Probe::new(before), before.clone());
+    let ready = probe.prepare();
+    let p = &mut port;
+    let code = unsafe {
+        probe_prepare(
+            p.words.as_mut_ptr(), WORDS, p.longs.as_mut_ptr(), LONGS, p.floats.as_mut_ptr(), FLOATS, p.context.as_mut_ptr(), 3,
+            p.history.as_mut_ptr(), 18,
+        )
+    };
+    [(code != 0, port), (ready, probe.rows())]
+}
+
 fn main() {
     let args: Vec<String> = std::env::args().skip(1).collect();
+    if args.first().is_some_and(|a| a == "limits") {
+        let [port, oracle] = prepares(&rows(&mut Random(7), 400, u32::MAX));
+        let same = port.0 == oracle.0 && seen(&port.1) == seen(&oracle.1);
+        println!("flush {}: {}", u32::MAX, if same { "1 compared, 0 differ" } else { "1 compared, 1 differ" });
+        std::process::exit(i32::from(!same));
+    }
     let number = |k: usize, d| args.get(k).map_or(d, |a| a.parse().expect("a number"));
     let (r, count) = (&mut Random(number(0, 1)), number(1, 200_000));
     let (mut compared, mut differ, mut rounds, mut most, mut ready) = (0u64, 0u64, 0u64, 0u64, 0u64);
@@ -128,17 +149,9 @@ fn main() {
         let flush = if k % 5000 == 0 { 1_000_000 + r.below(4) as u32 } else { r.below(7) as u32 };
         let before = rows(r, memory.len() as u64, flush);
 
-        let (mut probe, mut port) = (Probe::new(&before), before.clone());
-        let oracle_ready = probe.prepare();
-        let p = &mut port;
-        let port_ready = unsafe {
-            probe_prepare(
-                p.words.as_mut_ptr(), WORDS, p.longs.as_mut_ptr(), LONGS, p.floats.as_mut_ptr(), FLOATS, p.context.as_mut_ptr(), 3,
-                p.history.as_mut_ptr(), 18,
-            )
-        };
-        ready += u64::from(oracle_ready);
-        tell("prepare", seen(&port) == seen(&probe.rows()) && (port_ready != 0) == oracle_ready, &before);
+        let [port, oracle] = prepares(&before);
+        ready += u64::from(oracle.0);
+        tell("prepare", port.0 == oracle.0 && seen(&port.1) == seen(&oracle.1), &before);
 
         let needed = [0, 1, 5, 14, 60, 240, 4097][r.below(7) as usize];
         let v2 = r.below(2) == 0;

@@ -1,6 +1,7 @@
 -- The queue of a voice's wave buffers, and the end of the one that plays (mixer.rs `end_buffer`).
-use Prim.Native.Nat.{ℕ, _+_, _%_, _^_}
+use Prim.Native.Nat.{ℕ, _+_, _-_, _%_, _^_}
 use mathlib.Core.Bool.{false, cond}
+use mathlib.Core.Path.{_≡_, refl}
 use lib.ListN.{getD, set}
 use Rattle.voice.specs.declared.wave.WaveBuffer.{WaveBuffer}
 use Rattle.voice.specs.declared.queue.Queue.{Queue}
@@ -30,6 +31,10 @@ nextSlot slot = (slot + 1) % 4
 -- one more, going round at 2^32
 abbrev pub more32 : ℕ → ℕ
 more32 n = (n + 1) % 2 ^ 32
+
+-- after the largest comes 0
+pub more-largest : more32 (2 ^ 32 - 1) ≡ 0
+more-largest = refl
 
 -- the buffer that plays has ended
 unfoldable pub endBuffer : Queue → Queue
