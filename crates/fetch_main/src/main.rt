@@ -94,7 +94,7 @@ fn main() {
     };
     let q = queue(0x10000);
     let mut row = [1.0f32; 243];
-    probes::fetch_row(q, s, &memory, ctx, [-1.0f32; 3], 0, &mut row);
+    fetch_once::fetch_row(q, s, &memory, ctx, [-1.0f32; 3], 0, &mut row);
     print(b"samples ", count(&row, 4660.0) as u64);
     print(b"zeros ", count(&row, 0.0) as u64);
     print(b"rounds ", rounds(q, s));

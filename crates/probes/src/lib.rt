@@ -1,11 +1,8 @@
 // Exports of inner functions for the drivers of compare/, which hold them to the oracle. No part of the interface for titles.
-mod fetches;
-mod voices;
 
 use adpcm::AdpcmAnswer;
 use adpcm::AdpcmContext;
 use adpcm::Sample;
-pub use fetches::fetch_row;
 
 #[repr(C)]
 pub struct ProbeDecoded {

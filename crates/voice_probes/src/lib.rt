@@ -1,5 +1,15 @@
-// A voice by its rows. Where the rows are not a voice's, the answer is 2 and nothing changes.
+// Exports of a voice by its rows for the driver compare/voice.rs, which holds prepare and fetch to the oracle. No part of the interface for titles.
+// Where the rows are not a voice's, the answer is 2 and nothing changes.
+mod fetches;
+
 use voice::WaveBuffer;
+
+#[repr(C)]
+pub struct VoiceContext {
+    pub pred_scale: u16,
+    pub history0: i16,
+    pub history1: i16,
+}
 
 // The position's part of a prepare: whether the voice is ready, 2 for no voice, or 3 where the sound is to be reset.
 fn prepare_rows(words: &mut [u32], longs: &mut [u64], floats: &mut [f32]) -> u32 {

@@ -1,10 +1,10 @@
--- `probes::fetches::plan_voice` meets what a plan requires by its own tests. Assumes nothing.
+-- `voice_probes::plan_voice` meets what a plan requires by its own tests. Assumes nothing.
 use mathlib.Core.Path.{_≡_, ap}
 use native.Mathlib.Omega.{arith}
 use Rattle.voice.specs.declared.queue.Queue.{Queue}
 use borrow.Author.Needs.{needs}
-use Rattle.probes.proofs.fetches.plan_voice.Statement.{statement}
-use Rattle.probes.proofs.fetches.plan_voice.Tie as tie
+use Rattle.voice_probes.proofs.fetches.plan_voice.Statement.{statement}
+use Rattle.voice_probes.proofs.fetches.plan_voice.Tie as tie
 
 returns : tie.Need-returns
 returns c = search needs

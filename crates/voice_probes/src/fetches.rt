@@ -1,9 +1,6 @@
 // A fetch: the position's part by a voice's rows, and the sound of a channel.
-ghost use mathlib.Core.Path.{_≡_};
-use crate::ProbeContext;
-use adpcm::AdpcmContext;
+use crate::VoiceContext;
 use plan::Source;
-use voice::Queue;
 use voice::Voice;
 
 fn source_of(v: Voice, base: u64, size: u64, buffers_v2: bool) -> Source {
@@ -85,40 +82,6 @@ pub extern "C" fn probe_plan(
     m.rounds
 }
 
-// Plan and sound of channel c, into a row that begins with its history; as it is where a fetch requires more.
-pub fn fetch_row(
-    q: Queue,
-    s: Source,
-    memory: &[u8],
-    adpcm: AdpcmContext,
-    history: [f32; 3],
-    c: u32,
-    out: &mut [f32],
-) -> AdpcmContext {
-    if out.len() < 3 {
-        return adpcm;
-    }
-    if out.len() > 65536 {
-        return adpcm;
-    }
-    if q.index > 3 {
-        return adpcm;
-    }
-    if s.channels == 0 {
-        return adpcm;
-    }
-    if s.channels > 6 {
-        return adpcm;
-    }
-    if s.size != memory.len() as u64 {
-        return adpcm;
-    }
-    let count = (out.len() - 3) as u32;
-    let plan = plan::plan_fetch(q, s, count);
-    let table = sound::coefficients(memory, s, plan.table);
-    sound::fetch_channel(plan, s, memory, &table, adpcm, history, c, out)
-}
-
 // The sound of channel c of a voice's fetch, and the ADPCM context that is left.
 #[no_mangle]
 pub extern "C" fn probe_fetch_row(
@@ -132,7 +95,7 @@ pub extern "C" fn probe_fetch_row(
     buffers_v2: u32,
     c: u32,
     out: &mut [f32],
-) -> ProbeContext {
+) -> VoiceContext {
     if words.len() < 58 {
         return nothing();
     }
@@ -155,16 +118,16 @@ pub extern "C" fn probe_fetch_row(
     let kept = sound.history;
     let samples = kept.samples;
     let first = three_of(samples, c);
-    let x = fetch_row(voice::queue_of(v), s, memory, ctx, first, c, out);
-    ProbeContext {
+    let x = fetch_once::fetch_row(voice::queue_of(v), s, memory, ctx, first, c, out);
+    VoiceContext {
         pred_scale: x.pred_scale,
         history0: x.history0,
         history1: x.history1,
     }
 }
 
-fn nothing() -> ProbeContext {
-    ProbeContext {
+fn nothing() -> VoiceContext {
+    VoiceContext {
         pred_scale: 0,
         history0: 0,
         history1: 0,

@@ -1,9 +1,9 @@
--- `probes::fetches::fetch_row` meets what a fetch requires by its own tests: the plan is of as many samples as the row has room for. Assumes nothing.
+-- `fetch_once::fetch_row` meets what a fetch requires by its own tests: the plan is of as many samples as the row has room for. Assumes nothing.
 use native.Mathlib.Omega.{arith}
 use Rattle.sound.specs.Channel.{plan-ready}
 use borrow.Author.Needs.{needs}
-use Rattle.probes.proofs.fetches.fetch_row.Statement.{statement}
-use Rattle.probes.proofs.fetches.fetch_row.Tie as tie
+use Rattle.fetch_once.proofs.fetch_row.Statement.{statement}
+use Rattle.fetch_once.proofs.fetch_row.Tie as tie
 
 returns : tie.Need-returns
 returns c = search needs

@@ -1,0 +1,38 @@
+// Plan and sound of one channel in one call, for the comparison with the Rust and for programs that hold no plan.
+use adpcm::AdpcmContext;
+use plan::Source;
+use voice::Queue;
+
+// Plan and sound of channel c, into a row that begins with its history; as it is where a fetch requires more.
+pub fn fetch_row(
+    q: Queue,
+    s: Source,
+    memory: &[u8],
+    adpcm: AdpcmContext,
+    history: [f32; 3],
+    c: u32,
+    out: &mut [f32],
+) -> AdpcmContext {
+    if out.len() < 3 {
+        return adpcm;
+    }
+    if out.len() > 65536 {
+        return adpcm;
+    }
+    if q.index > 3 {
+        return adpcm;
+    }
+    if s.channels == 0 {
+        return adpcm;
+    }
+    if s.channels > 6 {
+        return adpcm;
+    }
+    if s.size != memory.len() as u64 {
+        return adpcm;
+    }
+    let count = (out.len() - 3) as u32;
+    let plan = plan::plan_fetch(q, s, count);
+    let table = sound::coefficients(memory, s, plan.table);
+    sound::fetch_channel(plan, s, memory, &table, adpcm, history, c, out)
+}
