@@ -112,7 +112,7 @@ pub extern "C" fn probe_fetch_row(
         return nothing();
     }
     let v = voice_rows::load_voice(words, longs, floats);
-    let sound = voice_rows::load_sound(contexts, history);
+    let sound = sound_rows::load_sound(contexts, history);
     let s = source_of(v, base, memory.len() as u64, buffers_v2 != 0);
     let ctx = sound.adpcm;
     let kept = sound.history;

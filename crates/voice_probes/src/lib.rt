@@ -45,7 +45,7 @@ fn reset_rows(contexts: &mut [u16], history: &mut [f32]) {
     if history.len() < 18 {
         return;
     }
-    voice_rows::store_sound(voice::silent(), contexts, 0, history, 0);
+    sound_rows::store_sound(voice::silent(), contexts, 0, history, 0);
 }
 
 #[no_mangle]

@@ -11,9 +11,10 @@ use Rattle.rows.specs.Rows.{part}
 use Rattle.voice.specs.declared.wave.WaveBuffer.{WaveBuffer}
 use Rattle.voice.specs.declared.Voice.{Voice}
 use Rattle.voice.specs.Queue.{noBuffer}
 use Rattle.voice_rows.specs.WaveRow.{waveFrom, wordsFromWave, longsFromWave, waveOf, wordsOfWave, longsOfWave}
 use Rattle.voice_rows.specs.VoiceRow.{playOf, wordOfPlay, voiceOf, headOf, topOf, wordsOf, longsOf, floatsOf}
-use Rattle.voice_rows.specs.Spelled.{spelled, part-at, part-on, part-whole, flag-again, flag-word, play-again, play-word}
+use Rattle.sound_rows.specs.Spelled.{spelled, part-at, part-on, part-whole}
+use Rattle.row_trips.specs.Marks.{flag-again, flag-word, play-again, play-word}
 
 -- ---- store, then load
 

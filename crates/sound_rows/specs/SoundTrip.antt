@@ -11,8 +11,8 @@ use mir.Facts.{toZ-ofZ}
 use mir.ValLaws.{ofZ-toZ}
 use Rattle.rows.specs.Rows.{part}
 use Rattle.voice.specs.declared.sound.Sound.{Sound}
-use Rattle.voice_rows.specs.Spelled.{spelled, part-whole}
-use Rattle.voice_rows.specs.SoundRow.{soundFrom, soundOf, wordsOfContext, contextsOf, historyOf}
+use Rattle.sound_rows.specs.Spelled.{spelled, part-whole}
+use Rattle.sound_rows.specs.SoundRow.{soundFrom, soundOf, wordsOfContext, contextsOf, historyOf}
 
 -- a sound whose numbers fit 16 bits and whose history has its length
 pub record ShapedSound (s : Sound) : Type 0 where

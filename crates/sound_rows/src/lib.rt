@@ -5,7 +5,7 @@ ghost use lib.ListN.{length};
 ghost use mir.Val.{ofZ};
 ghost use mir.Syntax.{w16};
 ghost use Rattle.rows.specs.Rows.{put};
-ghost use Rattle.voice_rows.specs.SoundRow.{wordsOfContext, soundOf, contextsOf, historyOf};
+ghost use Rattle.sound_rows.specs.SoundRow.{wordsOfContext, soundOf, contextsOf, historyOf};
 use adpcm::AdpcmContext;
 use fields::signed16;
 use voice::History;

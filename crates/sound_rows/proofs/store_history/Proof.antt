@@ -1,10 +1,10 @@
--- `voice_rows::store_history` meets its contract: the samples are copied in. Assumes nothing.
+-- `sound_rows::store_history` meets its contract: the samples are copied in. Assumes nothing.
 use mathlib.Core.Path.{sym, _∙_}
 use native.Mathlib.Omega.{arith}
 use lib.ListN.{length-map}
 use borrow.Author.Needs.{needs}
-use Rattle.voice_rows.proofs.sound.store_history.Statement.{statement}
-use Rattle.voice_rows.proofs.sound.store_history.Tie as tie
+use Rattle.sound_rows.proofs.store_history.Statement.{statement}
+use Rattle.sound_rows.proofs.store_history.Tie as tie
 
 slice-aggregate-copy-in-f32 : tie.Need-slice-aggregate-copy-in-f32
 slice-aggregate-copy-in-f32 c = search needs

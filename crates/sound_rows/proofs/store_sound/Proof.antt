@@ -1,8 +1,8 @@
--- `voice_rows::store_sound` meets its contract: one store for each slice. Assumes nothing.
-use Rattle.voice_rows.specs.SoundRow.{contextsOf, historyOf}
+-- `sound_rows::store_sound` meets its contract: one store for each slice. Assumes nothing.
+use Rattle.sound_rows.specs.SoundRow.{contextsOf, historyOf}
 use borrow.Author.Needs.{needs}
-use Rattle.voice_rows.proofs.sound.store_sound.Statement.{statement}
-use Rattle.voice_rows.proofs.sound.store_sound.Tie as tie
+use Rattle.sound_rows.proofs.store_sound.Statement.{statement}
+use Rattle.sound_rows.proofs.store_sound.Tie as tie
 
 store-context-requires : tie.Need-store-context-requires
 store-context-requires c κs = search needs

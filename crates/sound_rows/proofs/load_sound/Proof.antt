@@ -1,12 +1,12 @@
--- `voice_rows::load_sound` meets its contract: the context is read word by word, the history copied out. Assumes nothing.
+-- `sound_rows::load_sound` meets its contract: the context is read word by word, the history copied out. Assumes nothing.
 use mathlib.Core.Path.{_∙_}
 use lib.ListN.{getD}
 use mir.Syntax.{w16}
 use mir.Facts.{toZ-ofZ}
-use Rattle.voice_rows.specs.SoundRow.{soundFrom, soundOf}
+use Rattle.sound_rows.specs.SoundRow.{soundFrom, soundOf}
 use borrow.Author.Needs.{needs}
-use Rattle.voice_rows.proofs.sound.load_sound.Statement.{statement}
-use Rattle.voice_rows.proofs.sound.load_sound.Tie as tie
+use Rattle.sound_rows.proofs.load_sound.Statement.{statement}
+use Rattle.sound_rows.proofs.load_sound.Tie as tie
 
 slice-aggregate-copy-out-f32 : tie.Need-slice-aggregate-copy-out-f32
 slice-aggregate-copy-out-f32 c = search needs

@@ -1,16 +1,10 @@
--- A list as its elements one by one, and as its parts one after the other; a flag and a play mark as a word and back. Assumes nothing.
+-- A list as its elements one by one, and as its parts one after the other. Assumes nothing.
 use mathlib.Core.Path.{_≡_, refl, ap, sym, _∙_}
-use mathlib.Core.Bool.{Bool, true, false}
 use mathlib.Core.List.{List, [], _∷_, _++_}
-use Prim.Native.Nat.{ℕ, zero, suc, _+_, _≤_, _<_}
-use native.Mathlib.Omega.{arith}
+use Prim.Native.Nat.{ℕ, zero, suc, _+_, _<_}
 use lib.ListN.{length, getD, take, drop}
 use lib.Seq.{getD-take, getD-drop, take-add, take-length}
 use Rattle.rows.specs.Rows.{part}
-use Rattle.voice.specs.declared.play.Play.{Play}
-use Rattle.voice.specs.declared.play.Play.the-variants.{Started, Stopped, Stopping, Paused}
-use Rattle.voice_rows.specs.WaveRow.{flagOf, wordOfFlag}
-use Rattle.voice_rows.specs.VoiceRow.{playOf, wordOfPlay}
 
 module _ {ℓ} {A : Type ℓ} where
   -- f 0, f 1, .., f (n - 1)
@@ -38,27 +32,3 @@ module _ {ℓ} {A : Type ℓ} where
   pub part-whole : (n : ℕ) (s : List A) → length s ≡ n → part n 0 s ≡ s
   unfolding part
   part-whole n s h = ap (λ (m : ℕ). take m s) (sym h) ∙ take-length s
-
--- ---- flags and play marks
-
-pub flag-again : (b : Bool) → flagOf (wordOfFlag b) ≡ b
-flag-again true = refl
-flag-again false = refl
-
-pub flag-word : (n : ℕ) → n ≤ 1 → wordOfFlag (flagOf n) ≡ n
-flag-word zero h = refl
-flag-word (suc zero) h = refl
-flag-word (suc (suc n)) h = absurd (omega arith)
-
-pub play-again : (p : Play) → playOf (wordOfPlay p) ≡ p
-play-again Started = refl
-play-again Stopped = refl
-play-again Stopping = refl
-play-again Paused = refl
-
-pub play-word : (n : ℕ) → n ≤ 3 → wordOfPlay (playOf n) ≡ n
-play-word zero h = refl
-play-word (suc zero) h = refl
-play-word (suc (suc zero)) h = refl
-play-word (suc (suc (suc zero))) h = refl
-play-word (suc (suc (suc (suc n)))) h = absurd (omega arith)

@@ -1,14 +1,14 @@
--- `voice_rows::store_context` meets its contract: the copied row is the context's three words. Assumes nothing.
+-- `sound_rows::store_context` meets its contract: the copied row is the context's three words. Assumes nothing.
 use mathlib.Core.List.{_∷_, []}
 use mathlib.Core.Path.{ap, _∙_}
 use mir.Syntax.{w16}
 use mir.Val.{ofZ}
 use mir.Facts.{toZ-ofZ}
 use Rattle.rows.specs.Rows.{put}
-use Rattle.voice_rows.specs.SoundRow.{wordsOfContext}
+use Rattle.sound_rows.specs.SoundRow.{wordsOfContext}
 use borrow.Author.Needs.{needs}
-use Rattle.voice_rows.proofs.sound.store_context.Statement.{statement}
-use Rattle.voice_rows.proofs.sound.store_context.Tie as tie
+use Rattle.sound_rows.proofs.store_context.Statement.{statement}
+use Rattle.sound_rows.proofs.store_context.Tie as tie
 
 bits16-requires : tie.Need-bits16-requires
 bits16-requires c κs = search needs

@@ -1,0 +1,1 @@
+// A voice and its rows are the same thing, both ways: the crate is its specs/.

@@ -1,0 +1,3 @@
+pub mod SoundRow
+pub mod Spelled
+pub mod SoundTrip
