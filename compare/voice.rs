@@ -2,7 +2,10 @@
 //!
 //! `voice [SEED [COUNT]]` compares COUNT random voices and memories, and the counters at their limits among them.
 //! `voice limits` compares one prepare with the largest flush count, which walks 2^32 - 1 turns on both sides (minutes).
+#[allow(dead_code)]
+mod generate;
 mod random;
+use generate::{BASE, rows};
 use oracle::mixer::probe::{FLOATS, LONGS, Probe, Rows, WORDS};
 use oracle::{Memory, take_rounds};
 use random::{Random, bits};
@@ -29,78 +32,6 @@ unsafe extern "C" {
         memory_len: usize, buffers_v2: u32, c: u32, out: *mut f32, out_len: usize,
     ) -> ProbeContext;
     fn probe_offsets_valid(record: *const u8, record_len: usize, format: u32) -> u32;
-}
-
-const BASE: u64 = 0x10000;
-
-/// A counter: mostly small, sometimes near its limit.
-fn counter(r: &mut Random) -> u64 {
-    match r.below(4) {
-        0 => u64::MAX - r.below(4),
-        1 => u64::from(u32::MAX) - r.below(4),
-        2 => 0x8000_0000 - 2 + r.below(4),
-        _ => r.below(8),
-    }
-}
-
-/// An address: mostly in memory, sometimes before or after it, sometimes so far that a sum with a place goes round.
-fn address(r: &mut Random, len: u64) -> u64 {
-    match r.below(12) {
-        0 => BASE.wrapping_sub(r.below(64)),
-        1 => u64::MAX - r.below(64),
-        2 => BASE.wrapping_sub(24 * r.below(1 << 32)),
-        3 => r.next(),
-        _ => BASE + r.below(len + 1),
-    }
-}
-
-fn rows(r: &mut Random, len: u64, flush: u32) -> Rows {
-    let mut words = vec![0u32; WORDS];
-    let mut longs = vec![0u64; LONGS];
-    let flag = |r: &mut Random| r.below(2) as u32;
-    words[0] = flag(r);
-    words[1] = flag(r);
-    words[2] = r.below(4) as u32;
-    words[3] = [2, 5, 6, 6, 2, 0, 9][r.below(7) as usize];
-    words[4] = r.next() as u32;
-    words[5] = 1 + r.below(6) as u32;
-    words[6] = r.below(5) as u32;
-    words[7] = r.below(4) as u32;
-    words[8] = flush;
-    words[9] = r.below(1 << 16) as u32;
-    words[10] = r.next() as u32;
-    words[11] = r.next() as u32;
-    for k in 12..18 {
-        words[k] = r.below(64) as u32;
-    }
-    for k in 18..22 {
-        words[k] = u32::from(r.below(4) != 0);
-    }
-    words[22] = r.below(4) as u32;
-    words[23] = counter(r) as u32;
-    words[24] = if r.below(3) == 0 { r.below(20) as u32 } else if r.below(8) == 0 { r.next() as u32 } else { 0 };
-    words[25] = counter(r) as u32;
-    longs[0] = address(r, len);
-    longs[1] = counter(r);
-    for b in 0..4 {
-        let (w, l) = (26 + b * 8, 2 + b * 3);
-        let short = |r: &mut Random| if r.below(16) == 0 { r.next() as u32 } else { r.below(50) as u32 };
-        words[w] = short(r);
-        words[w + 1] = words[w].wrapping_add(short(r));
-        words[w + 2] = flag(r);
-        words[w + 3] = flag(r);
-        words[w + 4] = counter(r) as u32;
-        words[w + 5] = short(r);
-        words[w + 6] = short(r);
-        words[w + 7] = flag(r);
-        longs[l] = address(r, len);
-        longs[l + 1] = if r.below(8) == 0 { r.next() } else { r.below(512) };
-        longs[l + 2] = if r.below(3) == 0 { 0 } else { address(r, len) };
-    }
-    let floats = (0..FLOATS).map(|k| if k == 3 { r.below(1 << 24) as f32 / (1 << 24) as f32 } else { r.float() }).collect();
-    let context = (0..3).map(|_| r.next() as u16).collect();
-    let history = (0..18).map(|_| r.float()).collect();
-    Rows { words, longs, floats, context, history }
 }
 
 /// What is compared of a voice, with every NaN as one.

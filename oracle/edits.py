@@ -9,17 +9,46 @@ EDITS = {
         # Three samples (needed is 0): the Rust reads past them and panics; the missing fourth point equals the third.
         ("let p3 = input[i + 3];", "let p3 = input.get(i + 3).copied().unwrap_or(p2);"),
     ],
+    "mod.rs": [
+        # The reply does not depend on the process, which is only warned.
+        ("fn update(&self, p: &Process, input: &[u8], out_size: usize)", "fn update(&self, input: &[u8], out_size: usize)"),
+        (
+            """        if out.len() != out_size {
+            p.warn_once(format!("audren: update output is {:#x} bytes, the game expects {out_size:#x}", out.len()));
+        }
+""",
+            "",
+        ),
+    ],
     "mixer.rs": [
         # Rounds are counted where a round gets past its first test.
         ("let wb = self.buffers[self.index];", "crate::count_round();\n            let wb = self.buffers[self.index];"),
     ],
 }
 # What is appended to a file, to read and write what is private in it.
-APPENDED = {"mixer.rs": "mixer_probe.rs"}
+APPENDED = {"mixer.rs": "mixer_probe.rs", "mod.rs": "renderer_probe.rs"}
+# Of mod.rs, the rest of which is the service around the renderer, only these parts are taken, each from one line up to another.
+PARTS = {
+    "mod.rs": (
+        "renderer.rs",
+        [("const HEADER_SIZE: usize", "pub struct AudioRendererManager;"), ("impl Renderer {", "impl Service for Renderer {")],
+    )
+}
+
+
+
+def cut(name, text, first, end):
+    if text.count(first) != 1 or text.count(end) != 1:
+        sys.exit(f"edits.py: {name}: {first!r} or {end!r} does not stand there just once")
+    return text[text.index(first) : text.index(end)]
+
 
 source, target = sys.argv[1:3]
 for name, edits in EDITS.items():
     text = open(f"{source}/{name}").read()
+    written, parts = PARTS.get(name, (name, []))
+    if parts:
+        text = "\n".join(cut(name, text, first, end) for first, end in parts)
     for old, new in edits:
         found = text.count(old)
         if found != 1:
@@ -27,4 +56,4 @@ for name, edits in EDITS.items():
         text = text.replace(old, new)
     if name in APPENDED:
         text += open(f"{os.path.dirname(os.path.abspath(__file__))}/{APPENDED[name]}").read()
-    open(f"{target}/{name}", "w").write(text)
+    open(f"{target}/{written}", "w").write(text)

@@ -1,6 +1,7 @@
 //! kirikae's audio renderer, as oracle/edits.py leaves it.
 pub mod dsp;
 pub mod mixer;
+pub mod renderer;
 
 use std::cell::Cell;
 

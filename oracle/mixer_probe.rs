@@ -130,4 +130,102 @@ pub mod probe {
     pub fn offsets_valid(record: &[u8], format: u8) -> bool {
         WaveBuffer::parse(record).offsets_valid(format)
     }
+
+    /// The whole state, by the rows of the port: words are the parameters, then voices, mixes, sinks, splitters and destinations; longs the elapsed
+    /// renders and voices; floats voices, channel resources, mixes, sinks and destinations. What no count of the state reaches is 0.
+    #[derive(Clone, Debug, PartialEq)]
+    pub struct Slices {
+        pub words: Vec<u32>,
+        pub longs: Vec<u64>,
+        pub floats: Vec<f32>,
+        pub contexts: Vec<u16>,
+        pub history: Vec<f32>,
+    }
+
+    pub fn dump(state: &State, parameters: Vec<u32>) -> Slices {
+        let mut s = Slices { words: parameters, longs: vec![state.elapsed_frames], floats: vec![], contexts: vec![], history: vec![] };
+        for v in &state.voices {
+            let r = Probe(v.clone()).rows();
+            s.words.extend(r.words);
+            s.longs.extend(r.longs);
+            s.floats.extend(r.floats);
+            s.contexts.extend(r.context);
+            s.history.extend(r.history);
+        }
+        for c in &state.channels {
+            s.floats.extend(c.mix);
+            s.floats.extend(c.previous);
+        }
+        for m in &state.mixes {
+            s.words.extend([u32::from(m.used), m.buffer_count as u32, m.destination as u32, m.splitter, m.offset as u32]);
+            s.floats.push(m.volume);
+            s.floats.extend(&m.volumes);
+        }
+        for k in &state.sinks {
+            s.words.extend([u32::from(k.used), u32::from(k.device), k.inputs.len() as u32]);
+            s.words.extend((0..6).map(|i| k.inputs.get(i).map_or(0, |&n| n as u32)));
+            s.words.push(u32::from(k.downmix.is_some()));
+            s.floats.extend(k.downmix.unwrap_or_default());
+        }
+        for p in &state.splitters {
+            s.words.push(p.destinations.len() as u32);
+            s.words.extend((0..128).map(|i| p.destinations.get(i).map_or(0, |&n| n as u32)));
+        }
+        for d in &state.destinations {
+            s.words.extend([u32::from(d.used), d.mix as u32]);
+            s.floats.extend(d.volumes);
+            s.floats.extend(d.previous);
+        }
+        s
+    }
+
+    /// The state that has these rows.
+    pub fn restore(sizes: Sizes, s: &Slices) -> State {
+        let mut state = State::new(sizes);
+        let (mut w, mut l, mut f) = (&s.words[10..], &s.longs[1..], &s.floats[..]);
+        fn next<'a, T>(s: &mut &'a [T], n: usize) -> &'a [T] {
+            let (first, rest) = s.split_at(n);
+            *s = rest;
+            first
+        }
+        state.elapsed_frames = s.longs[0];
+        for (i, v) in state.voices.iter_mut().enumerate() {
+            let r = Rows {
+                words: next(&mut w, WORDS).to_vec(),
+                longs: next(&mut l, LONGS).to_vec(),
+                floats: next(&mut f, FLOATS).to_vec(),
+                context: s.contexts[i * 3..i * 3 + 3].to_vec(),
+                history: s.history[i * 18..i * 18 + 18].to_vec(),
+            };
+            *v = Probe::new(&r).0;
+        }
+        for c in &mut state.channels {
+            c.mix = next(&mut f, 24).try_into().unwrap();
+            c.previous = next(&mut f, 24).try_into().unwrap();
+        }
+        for m in &mut state.mixes {
+            let r = next(&mut w, 5);
+            (m.used, m.buffer_count, m.destination, m.splitter, m.offset) = (r[0] != 0, r[1] as usize, r[2] as i32, r[3], r[4] as usize);
+            m.volume = next(&mut f, 1)[0];
+            m.volumes = next(&mut f, 576).to_vec();
+        }
+        for k in &mut state.sinks {
+            let r = next(&mut w, 10);
+            (k.used, k.device) = (r[0] != 0, r[1] != 0);
+            k.inputs = r[3..3 + r[2] as usize].iter().map(|&n| n as usize).collect();
+            let factors: [f32; 4] = next(&mut f, 4).try_into().unwrap();
+            k.downmix = (r[9] != 0).then_some(factors);
+        }
+        for p in &mut state.splitters {
+            let r = next(&mut w, 129);
+            p.destinations = r[1..1 + r[0] as usize].iter().map(|&n| n as usize).collect();
+        }
+        for d in &mut state.destinations {
+            let r = next(&mut w, 2);
+            (d.used, d.mix) = (r[0] != 0, r[1] as i32);
+            d.volumes = next(&mut f, 24).try_into().unwrap();
+            d.previous = next(&mut f, 24).try_into().unwrap();
+        }
+        state
+    }
 }

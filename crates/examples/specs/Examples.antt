@@ -9,6 +9,7 @@ use Rattle.adpcm.specs.Places.{sizeOf}
 use Rattle.adpcm.specs.Decode.{runOf}
 use Rattle.adpcm.specs.Answer.{none}
 use Rattle.resample.specs.Defs.{half, neededOf, nextOf}
+use Rattle.params.specs.Examples.{excess}
 use Rattle.voice.specs.Wave.{offsetsValid}
 use Rattle.voice.specs.declared.wave.WaveBuffer.{WaveBuffer}
 use Rattle.adpcm.specs.declared.context.AdpcmContext.{AdpcmContext}
@@ -73,5 +74,9 @@ kept false = pos 0
 unfoldable pub p7 : Row
 p7 = record { gives = kept (offsetsValid (ending 4) 2) ∷ kept (offsetsValid (ending 5) 2) ∷ []; says = pos 1 ∷ pos 0 ∷ [] }
 
+-- the effects' bytes in the reply of three effects, where the expected size exceeds the rest by 10, and by 2
+unfoldable pub p8 : Row
+p8 = record { gives = pos (excess 10) ∷ pos (excess 2) ∷ []; says = pos 9 ∷ pos 0 ∷ [] }
+
 unfoldable pub table : List Row
-table = p1 ∷ p2 ∷ p3 ∷ p4 ∷ p5 ∷ p6 ∷ p7 ∷ []
+table = p1 ∷ p2 ∷ p3 ∷ p4 ∷ p5 ∷ p6 ∷ p7 ∷ p8 ∷ []

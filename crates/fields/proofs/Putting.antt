@@ -7,14 +7,15 @@ use native.Mathlib.Nat.{add-zero}
 use native.Mathlib.Omega.{arith}
 use lib.ListN.{length, set, length-set, take-append-drop}
 use lib.Seq.{take-suc-set, drop-set-lt, append-snoc}
-use Rattle.fields.specs.Fields.{bytesOf, putBytes}
+use Rattle.rows.specs.Rows.{put}
+use Rattle.fields.specs.Fields.{bytesOf}
 
-put-none : (d : List ℕ) (o : ℕ) → putBytes d o [] ≡ d
-unfolding putBytes
+put-none : (d : List ℕ) (o : ℕ) → put d o [] ≡ d
+unfolding put
 put-none d o = rw (add-zero, append-nil) (take-append-drop o d)
 
-put-first : (d : List ℕ) (o x : ℕ) (r : List ℕ) → o < length d → putBytes (set d o x) (o + 1) r ≡ putBytes d o (x ∷ r)
-unfolding putBytes
+put-first : (d : List ℕ) (o x : ℕ) (r : List ℕ) → o < length d → put (set d o x) (o + 1) r ≡ put d o (x ∷ r)
+unfolding put
 put-first d o x r h =
     let e : o + 1 + length r ≡ o + suc (length r) = omega arith in
     let b : o < o + suc (length r) = omega arith in
@@ -24,7 +25,7 @@ put-first d o x r h =
 pub record Putting (d₀ : List ℕ) (o w v : ℕ) (d : List ℕ) (x k : ℕ) : Type 0 where
   pub count : k ≤ w
   pub size : length d ≡ length d₀
-  pub whole : putBytes d (o + k) (bytesOf (w - k) x) ≡ putBytes d₀ o (bytesOf w v)
+  pub whole : put d (o + k) (bytesOf (w - k) x) ≡ put d₀ o (bytesOf w v)
 
 pub begin : (d : List ℕ) (o w v : ℕ) → Putting d o w v d v 0
 begin d o w v =
@@ -42,12 +43,12 @@ module _ {d₀ : List ℕ} {o w v : ℕ} {d : List ℕ} {x k : ℕ} (p : Putting
         count = omega arith;
         size = simp length-set (p .size);
         whole = rw next (put-first d (o + k) (x % 256) (bytesOf (w - (k + 1)) (x / 256)) there)
-            ∙ ap (λ (n : ℕ). putBytes d (o + k) (bytesOf n x)) (sym left)
+            ∙ ap (λ (n : ℕ). put d (o + k) (bytesOf n x)) (sym left)
             ∙ p .whole;
       }
 
-  pub end : w ≤ k → d ≡ putBytes d₀ o (bytesOf w v)
+  pub end : w ≤ k → d ≡ put d₀ o (bytesOf w v)
   unfolding bytesOf
   end h =
       let none : w - k ≡ 0 = omega arith in
-      sym (put-none d (o + k)) ∙ ap (λ (n : ℕ). putBytes d (o + k) (bytesOf n x)) (sym none) ∙ p .whole
+      sym (put-none d (o + k)) ∙ ap (λ (n : ℕ). put d (o + k) (bytesOf n x)) (sym none) ∙ p .whole

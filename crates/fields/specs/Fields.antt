@@ -1,6 +1,6 @@
--- Fields of a list of bytes, little-endian; sections of it; and what a writer leaves. Assumes nothing.
+-- Fields of a list of bytes, little-endian; sections of it; and the bytes of a number. Assumes nothing.
 use mathlib.Core.Bool.{cond}
-use mathlib.Core.List.{List, [], _∷_, _++_}
+use mathlib.Core.List.{List, [], _∷_}
 use Prim.Native.Nat.{ℕ, zero, suc, _+_, _*_, _/_, _%_}
 use lib.Dec.{leb}
 use lib.ListN.{length, take, drop, getD}
@@ -26,7 +26,3 @@ restOf s at = drop at s
 unfoldable pub bytesOf : ℕ → ℕ → List ℕ
 bytesOf zero v = []
 bytesOf (suc w) v = v % 256 ∷ bytesOf w (v / 256)
-
--- r in place of as many bytes of d from o on
-unfoldable pub putBytes : List ℕ → ℕ → List ℕ → List ℕ
-putBytes d o r = take o d ++ r ++ drop (o + length r) d

@@ -7,7 +7,8 @@ use native.Mathlib.Omega.{arith}
 use lib.Dec.{leb}
 use lib.ListN.{length, take, drop, getD, length-append, length-drop, List·getD-append}
 use lib.Seq.{getD-take, getD-drop, getD-append-add, length-take-le}
-use Rattle.fields.specs.Fields.{le, fieldAt, bytesOf, putBytes}
+use Rattle.rows.specs.Rows.{put, length-put}
+use Rattle.fields.specs.Fields.{le, fieldAt, bytesOf}
 use Rattle.fields.specs.Reads.{le-same, field-in, field-same}
 
 pub length-bytes : (w v : ℕ) → length (bytesOf w v) ≡ w
@@ -34,28 +35,24 @@ module _ (d : List ℕ) (o : ℕ) (r : List ℕ) (fits : o + length r ≤ length
   both : length (take o d ++ r) ≡ o + length r
   both = rw (length-append, front)
 
-  pub length-put : length (putBytes d o r) ≡ length d
-  unfolding putBytes
-  length-put = rw (length-append, both, length-drop) (omega arith)
-
   -- each byte before, in and behind what was put
-  pub getD-put-before : (i : ℕ) → i < o → getD (putBytes d o r) i 0 ≡ getD d i 0
-  unfolding putBytes
+  pub getD-put-before : (i : ℕ) → i < o → getD (put d o r) i 0 ≡ getD d i 0
+  unfolding put
   getD-put-before i h =
       let l : i < length (take o d) = omega (arith, front) in
       let m : i < length (take o d ++ r) = omega (arith, both) in
       List·getD-append (take o d ++ r) (drop (o + length r) d) 0 i m ∙ List·getD-append (take o d) r 0 i l ∙ getD-take o d i 0 h
 
-  pub getD-put-in : (i : ℕ) → i < length r → getD (putBytes d o r) (o + i) 0 ≡ getD r i 0
-  unfolding putBytes
+  pub getD-put-in : (i : ℕ) → i < length r → getD (put d o r) (o + i) 0 ≡ getD r i 0
+  unfolding put
   getD-put-in i h =
       let m : o + i < length (take o d ++ r) = omega (arith, both) in
       List·getD-append (take o d ++ r) (drop (o + length r) d) 0 (o + i) m
       ∙ ap (λ (n : ℕ). getD (take o d ++ r) (n + i) 0) (sym front)
       ∙ getD-append-add (take o d) r i 0
 
-  pub getD-put-after : (i : ℕ) → o + length r ≤ i → getD (putBytes d o r) i 0 ≡ getD d i 0
-  unfolding putBytes
+  pub getD-put-after : (i : ℕ) → o + length r ≤ i → getD (put d o r) i 0 ≡ getD d i 0
+  unfolding put
   getD-put-after i h =
       let e : i ≡ o + length r + (i - (o + length r)) = omega arith in
       let e₂ : length (take o d ++ r) + (i - (o + length r)) ≡ i = omega (arith, both) in
@@ -64,21 +61,21 @@ module _ (d : List ℕ) (o : ℕ) (r : List ℕ) (fits : o + length r ≤ length
       ∙ getD-drop (o + length r) d (i - (o + length r)) 0
       ∙ ap (λ (n : ℕ). getD d n 0) (sym e)
 
-  same-end : (w b : ℕ) → leb (b + w) (length (putBytes d o r)) ≡ leb (b + w) (length d)
-  same-end w b = ap (leb (b + w)) length-put
+  same-end : (w b : ℕ) → leb (b + w) (length (put d o r)) ≡ leb (b + w) (length d)
+  same-end w b = ap (leb (b + w)) (length-put d o r fits)
 
   -- a field beside it is as it was
-  pub field-put-before : (w b : ℕ) → b + w ≤ o → fieldAt w (putBytes d o r) b ≡ fieldAt w d b
-  field-put-before w b h = field-same w (putBytes d o r) d b b (same-end w b) (λ i l. getD-put-before (b + i) (omega arith))
+  pub field-put-before : (w b : ℕ) → b + w ≤ o → fieldAt w (put d o r) b ≡ fieldAt w d b
+  field-put-before w b h = field-same w (put d o r) d b b (same-end w b) (λ i l. getD-put-before (b + i) (omega arith))
 
-  pub field-put-after : (w b : ℕ) → o + length r ≤ b → fieldAt w (putBytes d o r) b ≡ fieldAt w d b
-  field-put-after w b h = field-same w (putBytes d o r) d b b (same-end w b) (λ i l. getD-put-after (b + i) (omega arith))
+  pub field-put-after : (w b : ℕ) → o + length r ≤ b → fieldAt w (put d o r) b ≡ fieldAt w d b
+  field-put-after w b h = field-same w (put d o r) d b b (same-end w b) (λ i l. getD-put-after (b + i) (omega arith))
 
 -- the field that was put reads as the number
-pub field-put : (w v : ℕ) (d : List ℕ) (o : ℕ) → v < 256 ^ w → o + w ≤ length d → fieldAt w (putBytes d o (bytesOf w v)) o ≡ v
+pub field-put : (w v : ℕ) (d : List ℕ) (o : ℕ) → v < 256 ^ w → o + w ≤ length d → fieldAt w (put d o (bytesOf w v)) o ≡ v
 field-put w v d o h fits =
     let f : o + length (bytesOf w v) ≤ length d = rw length-bytes fits in
-    let inside : o + w ≤ length (putBytes d o (bytesOf w v)) = rw (length-put d o (bytesOf w v) f) fits in
-    let bytes : (i : ℕ) → i < w → getD (putBytes d o (bytesOf w v)) (o + i) 0 ≡ getD (bytesOf w v) (0 + i) 0 =
+    let inside : o + w ≤ length (put d o (bytesOf w v)) = rw (length-put d o (bytesOf w v) f) fits in
+    let bytes : (i : ℕ) → i < w → getD (put d o (bytesOf w v)) (o + i) 0 ≡ getD (bytesOf w v) (0 + i) 0 =
     λ i l. rw zero-add (getD-put-in d o (bytesOf w v) f i (rw length-bytes l)) in
     field-in w _ o inside ∙ le-same w _ (bytesOf w v) o 0 bytes ∙ le-bytes w v h

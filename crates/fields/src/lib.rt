@@ -7,7 +7,8 @@ ghost use lib.Ieee.{binary32};
 ghost use lib.ListN.{length};
 ghost use mir.Val.{toZ};
 ghost use mir.Syntax.{w16, w32};
-ghost use Rattle.fields.specs.Fields.{le, fieldAt, sectionOf, restOf, bytesOf, putBytes};
+ghost use Rattle.fields.specs.Fields.{le, fieldAt, sectionOf, restOf, bytesOf};
+ghost use Rattle.rows.specs.Rows.{put};
 
 // Whether w bytes from o on are inside n.
 pub fn inside(n: usize, o: usize, w: usize) -> bool
@@ -137,7 +138,7 @@ pub fn rest(input: &[u8], at: usize) -> &[u8]
 // The w low bytes of v, the lowest first, in place of those from o on.
 fn put_low(d: &mut [u8], o: usize, w: usize, v: u64)
     requires { ⌜ o + w ≤ length (now d) ⌝ }
-    ensures { λ _. ⌜ now (d .exit) ≡ putBytes (now (d .entry)) o (bytesOf w v) ⌝ }
+    ensures { λ _. ⌜ now (d .exit) ≡ put (now (d .entry)) o (bytesOf w v) ⌝ }
 {
     let mut x = v;
     let mut k: usize = 0;
@@ -150,28 +151,28 @@ fn put_low(d: &mut [u8], o: usize, w: usize, v: u64)
 
 pub fn put_byte(d: &mut [u8], o: usize, v: u8)
     requires { ⌜ o + 1 ≤ length (now d) ⌝ }
-    ensures { λ _. ⌜ now (d .exit) ≡ putBytes (now (d .entry)) o (bytesOf 1 v) ⌝ }
+    ensures { λ _. ⌜ now (d .exit) ≡ put (now (d .entry)) o (bytesOf 1 v) ⌝ }
 {
     put_low(d, o, 1, v as u64);
 }
 
 pub fn put_u16(d: &mut [u8], o: usize, v: u16)
     requires { ⌜ o + 2 ≤ length (now d) ⌝ }
-    ensures { λ _. ⌜ now (d .exit) ≡ putBytes (now (d .entry)) o (bytesOf 2 v) ⌝ }
+    ensures { λ _. ⌜ now (d .exit) ≡ put (now (d .entry)) o (bytesOf 2 v) ⌝ }
 {
     put_low(d, o, 2, v as u64);
 }
 
 pub fn put_u32(d: &mut [u8], o: usize, v: u32)
     requires { ⌜ o + 4 ≤ length (now d) ⌝ }
-    ensures { λ _. ⌜ now (d .exit) ≡ putBytes (now (d .entry)) o (bytesOf 4 v) ⌝ }
+    ensures { λ _. ⌜ now (d .exit) ≡ put (now (d .entry)) o (bytesOf 4 v) ⌝ }
 {
     put_low(d, o, 4, v as u64);
 }
 
 pub fn put_u64(d: &mut [u8], o: usize, v: u64)
     requires { ⌜ o + 8 ≤ length (now d) ⌝ }
-    ensures { λ _. ⌜ now (d .exit) ≡ putBytes (now (d .entry)) o (bytesOf 8 v) ⌝ }
+    ensures { λ _. ⌜ now (d .exit) ≡ put (now (d .entry)) o (bytesOf 8 v) ⌝ }
 {
     put_low(d, o, 8, v);
 }

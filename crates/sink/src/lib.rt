@@ -27,7 +27,7 @@ fn channel<'a>(
     buffers: &'a [f32],
     silent: &'a [f32],
     offset: usize,
-    input: u8,
+    input: u32,
     n: usize,
 ) -> &'a [f32]
     requires { ⌜ (offset < 2 ^ 16) × (n < 2 ^ 24) × (n ≤ length (now silent)) ⌝ }
@@ -117,7 +117,7 @@ pub fn write_sink<'a>(
     silent: &'a [f32],
     n: usize,
     offset: usize,
-    inputs: [u8; 6],
+    inputs: [u32; 6],
     count: usize,
     downmix: Downmix,
 )

@@ -11,9 +11,9 @@ use Rattle.sink.specs.Sink.{rowOr}
 use Rattle.sink.proofs.channel.Statement.{statement}
 use Rattle.sink.proofs.channel.Tie as tie
 
-place : (offset input n : ℕ) → offset < 2 ^ 16 → input < 2 ^ 8 → n < 2 ^ 24 → (offset + input) * n ≤ 2 ^ 41
+place : (offset input n : ℕ) → offset < 2 ^ 16 → input < 2 ^ 32 → n < 2 ^ 24 → (offset + input) * n ≤ 2 ^ 57
 place offset input n h k g =
-    let b : offset + input ≤ 2 ^ 17 = omega arith in
+    let b : offset + input ≤ 2 ^ 33 = omega arith in
     mul-le-mul b (le-of-lt g)
 
 mul-at : tie.Need-mul-at

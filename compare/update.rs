@@ -1,0 +1,94 @@
+//! Holds an update to kirikae's `Renderer::update`: the reply's bytes and the whole state after it, from any whole state.
+//!
+//! `update [SEED [COUNT]]` compares COUNT updates, well-formed, cut short, damaged and of any bytes, over revisions 0 to 11 and the word 0.
+mod generate;
+mod inputs;
+mod random;
+use generate::{seen, state};
+use inputs::input;
+use oracle::mixer::probe::Slices;
+use oracle::renderer::Probe;
+use random::Random;
+
+unsafe extern "C" {
+    fn probe_update(
+        words: *mut u32, words_len: usize, longs: *mut u64, longs_len: usize, floats: *mut f32, floats_len: usize, contexts: *mut u16,
+        contexts_len: usize, history: *mut f32, history_len: usize, expected: u32, input: *const u8, input_len: usize, reply: *mut u8,
+        reply_len: usize,
+    ) -> u32;
+}
+
+/// The port's update: its answer's number, the state after it and the reply slice, filled with 0xa5 before.
+fn port(before: &Slices, input: &[u8], expected: u32, room: usize) -> (u32, Slices, Vec<u8>) {
+    let mut s = before.clone();
+    let mut reply = vec![0xa5; room];
+    let number = unsafe {
+        probe_update(
+            s.words.as_mut_ptr(), s.words.len(), s.longs.as_mut_ptr(), s.longs.len(), s.floats.as_mut_ptr(), s.floats.len(),
+            s.contexts.as_mut_ptr(), s.contexts.len(), s.history.as_mut_ptr(), s.history.len(), expected, input.as_ptr(), input.len(),
+            reply.as_mut_ptr(), reply.len(),
+        )
+    };
+    (number, s, reply)
+}
+
+fn main() {
+    let args: Vec<String> = std::env::args().skip(1).collect();
+    let number = |k: usize, d| args.get(k).map_or(d, |a| a.parse().expect("a number"));
+    let (r, count) = (&mut Random(number(0, 1)), number(1, 100_000));
+    let (mut compared, mut differ) = (0u64, 0u64);
+    let (mut kinds, mut revisions, mut fresh, mut changed) = ([0u64; 4], [0u64; 13], 0u64, 0u64);
+    for k in 0..count {
+        let mut before = state(r, 2000);
+        // An update after another finds what it left: every third runs on.
+        for _ in 0..[1, 1, 3][(k % 3) as usize] {
+            let (bytes, kind) = input(r, &before.words, 2000);
+            let expected = match r.below(4) {
+                0 => r.below(0x400) as u32,
+                1 => r.next() as u32 % 0x8000,
+                _ => 0x1000 + r.below(0x1000) as u32,
+            };
+            let oracle = Probe::restore(&before);
+            let reply = oracle.update(&bytes, expected as usize);
+            let after = oracle.slices();
+            let room = reply.len() + r.below(20) as usize;
+            let (answer, slices, out) = port(&before, &bytes, expected, room);
+            let same = answer == 0 && out[..reply.len()] == reply[..] && out[reply.len()..].iter().all(|&b| b == 0xa5) && seen(&slices) == seen(&after);
+            compared += 1;
+            kinds[kind] += 1;
+            let revision = before.words[9] >> 24;
+            revisions[if revision == 0 { 12 } else { revision as usize - 0x30 }] += 1;
+            fresh += u64::from(reply.len() > 0x40);
+            changed += u64::from(seen(&before) != seen(&after));
+            if !same {
+                differ += 1;
+                if differ < 6 {
+                    println!("differs: turn {k}, kind {kind}, answer {answer}, parameters {:x?}, expected {expected}", &before.words[..10]);
+                    let place = |a: &[u8], b: &[u8]| a.iter().zip(b).position(|(x, y)| x != y);
+                    println!("  reply {} bytes, first difference at {:?}", reply.len(), place(&out, &reply));
+                    let (a, b) = (seen(&slices), seen(&after));
+                    println!("  words {:?}", a.0.iter().zip(&b.0).position(|(x, y)| x != y));
+                    println!("  longs {:?}", a.1.iter().zip(&b.1).position(|(x, y)| x != y));
+                    println!("  floats {:?}", a.2.iter().zip(&b.2).position(|(x, y)| x != y));
+                    println!("  contexts {}, history {}", a.3 == b.3, a.4 == b.4);
+                }
+            }
+            // One byte too few for the reply is refused by 6, and nothing changes.
+            if r.below(16) == 0 {
+                let (answer, slices, out) = port(&before, &bytes, expected, reply.len() - 1);
+                compared += 1;
+                if answer != 6 || seen(&slices) != seen(&before) || out.iter().any(|&b| b != 0xa5) {
+                    differ += 1;
+                    println!("differs: turn {k}: a reply slice that is too short gives {answer}");
+                }
+            }
+            before = after;
+        }
+    }
+    println!("updates: {} well-formed, {} cut short, {} damaged, {} of any bytes; {changed} change the state", kinds[0], kinds[1], kinds[2], kinds[3]);
+    println!("by revision, 0 to 11 and the word 0: {revisions:?}; {fresh} replies with sections");
+    println!("{compared} compared, {differ} differ");
+    if differ != 0 {
+        std::process::exit(1);
+    }
+}

@@ -1,0 +1,12 @@
+-- `records::flag_at` meets its contract. Assumes nothing.
+use borrow.Author.Needs.{needs}
+use Rattle.desk.specs.Records.{flagAt}
+use Rattle.desk.proofs.records.flag_at.Statement.{statement}
+use Rattle.desk.proofs.records.flag_at.Tie as tie
+
+returns : tie.Need-returns
+unfolding flagAt
+returns c = cc
+
+pub flag-at-spec : {M : Type 1} → statement M
+flag-at-spec = tie.close (tie.spec (λ c κs. search needs) returns)

@@ -1,0 +1,2 @@
+pub mod MixRow
+pub mod Summing

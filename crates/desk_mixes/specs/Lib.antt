@@ -1,0 +1,3 @@
+pub mod Mixes
+pub mod Offsets
+pub mod MixLaws

@@ -1,0 +1,3 @@
+pub mod DeskOrder
+pub mod Laws
+pub mod Examples

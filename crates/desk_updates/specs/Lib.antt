@@ -1,0 +1,3 @@
+pub mod Lent
+pub mod DeskUpdate
+pub mod Laws

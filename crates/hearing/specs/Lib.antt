@@ -1,0 +1,2 @@
+pub mod Hearing
+pub mod Laws

@@ -1,0 +1,4 @@
+pub mod Playing
+pub mod Lent
+pub mod Channels
+pub mod Lengths

@@ -1,0 +1,4 @@
+pub mod Bytes
+pub mod Pools
+pub mod Voices
+pub mod Effects

@@ -1,0 +1,4 @@
+pub mod Tests
+pub mod Limits
+pub mod Voices
+pub mod Desk

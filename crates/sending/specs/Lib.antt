@@ -1,0 +1,5 @@
+pub mod Lent
+pub mod Sending
+pub mod Laws
+pub mod Routes
+pub mod InState

@@ -1,0 +1,81 @@
+-- `sub_mix::send_entries` meets its contract: `Running` holds at each turn. Assumes nothing.
+use mathlib.Core.Path.{refl}
+use Prim.Native.Nat.{_+_, _*_, _-_, _≤_}
+use native.Mathlib.Omega.{arith}
+use borrow.Author.Needs.{needs}
+use Rattle.desk_rows.specs.DeskRows.{mixSplitter, listEntry}
+use Rattle.sub_mix.specs.SubMix.{sendEntry}
+use Rattle.sub_mix.proofs.Running.{Running, begin, more, end}
+use Rattle.sub_mix.proofs.send_entries.Statement.{statement}
+use Rattle.sub_mix.proofs.send_entries.Tie as tie
+
+abbrev Inv-loop : tie.InvT-loop
+Inv-loop buffers₀ n src₀ mixes volumes nm lists ns nd destinations m s count k₀ buffers src k =
+    (count ≤ nd) × Running (λ j. sendEntry n nm mixes volumes ns nd lists destinations m j (listEntry lists s j)) n count buffers₀ buffers src k
+
+abbrev μ-loop : tie.MeasureT-loop
+μ-loop buffers₀ n src₀ mixes volumes nm lists ns nd destinations m s count k₀ buffers src k = count - k
+
+cast-s : tie.Need-cast-s Inv-loop μ-loop
+cast-s c = omega (arith, c .shared-slice-known5 .given (c .before .before .before .before .before .before .before .args .m * 5 + 3))
+
+cast-count : tie.Need-cast-count Inv-loop μ-loop
+cast-count c =
+    let a = c .before .before .before .before .before .before .before .before .args in
+    omega (arith, c .shared-slice-known6 .given (mixSplitter (a .mixes .now) (a .m) * 129))
+
+loop-holds : tie.Need-loop-holds Inv-loop μ-loop
+loop-holds c =
+    let a = c .before .before .before .before .before .before .before .before .args in
+    let p = c .before .before .before .before .before .before .before .before .pre .1 in
+    (p .0 .lengths (mixSplitter (a .mixes .now) (a .m)) (p .1 .1 .1 .1), begin _ _ _ _ _ (p .1 .1 .0 .2))
+
+cast-d : tie.Need-cast-d Inv-loop μ-loop
+cast-d c =
+    let a = c .before .before .before .before .before .before .before .before .before .before .before .args in
+    omega (arith, c .shared-slice-known7 .given (mixSplitter (a .mixes .now) (a .m) * 129 + 1 + c .before .before .loop .k))
+
+send-entry-requires : tie.Need-send-entry-requires Inv-loop μ-loop
+send-entry-requires c κs =
+    let l = c .before .before .before .before .loop in
+    let p = c .before .before .before .before .before .before .before .before .before .before .before .before .before .pre in
+    (p .0, (p .1 .0, (p .1 .1 .0, ((p .1 .1 .1 .0 .0, p .1 .1 .1 .0 .1, l .inv .1 .room), p .1 .1 .1 .1 .0))))
+
+loop-again : tie.Need-loop-again Inv-loop μ-loop
+loop-again c =
+    let sent = c .before .before .before .before in
+    let l = sent .before .before .before .before .before .loop in
+    (l .inv .0, more (l .inv .1) (omega (arith, sent .before .before .before .before .loop-test)) (search needs) (search needs) (sent .send-entry .ensures))
+
+returns : tie.Need-returns Inv-loop μ-loop
+returns c = end (c .before .loop .inv .1) _ refl (omega arith)
+
+pub send-entries-spec : {M : Type 1} → statement M
+send-entries-spec =
+    tie.close
+    (tie.spec
+    Inv-loop
+    μ-loop
+    (λ c. search needs)
+    (λ c. search needs)
+    (λ c. search needs)
+    (λ c. search needs)
+    cast-s
+    (λ c. search needs)
+    (λ c. search needs)
+    (λ c. search needs)
+    cast-count
+    loop-holds
+    (λ c. search needs)
+    (λ c. search needs)
+    (λ c. search needs)
+    (λ c. search needs)
+    (λ c. search needs)
+    cast-d
+    send-entry-requires
+    (λ c. search needs)
+    (λ c. search needs)
+    loop-again
+    (λ c. search needs)
+    (λ c. search needs)
+    returns)

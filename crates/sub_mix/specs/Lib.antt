@@ -1,0 +1,2 @@
+pub mod SubMix
+pub mod Laws

@@ -1,0 +1,4 @@
+pub mod Turn
+pub mod Begins
+pub mod Laws
+pub mod Made

@@ -1,0 +1,3 @@
+pub mod Record
+pub mod Made
+pub mod Laws

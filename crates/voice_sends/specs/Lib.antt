@@ -1,0 +1,6 @@
+pub mod Sending
+pub mod Turns
+pub mod Strides
+pub mod Laws
+pub mod Sizes
+pub mod Cases

@@ -1,0 +1,4 @@
+pub mod Voices
+pub mod RowLaws
+pub mod Own
+pub mod Turns

@@ -1,0 +1,4 @@
+pub mod Counts
+pub mod Lent
+pub mod Whole
+pub mod Examples
