@@ -1,0 +1,2 @@
+pub mod DeskRender
+pub mod Laws

@@ -1,0 +1,133 @@
+// A render (mixer.rs `render`): every voice in turn, then the sub-mixes and the sink.
+mod turns;
+
+ghost use mathlib.Core.Path.{_≡_};
+ghost use Prim.Native.Nat.{_+_, _*_, _^_, _%_, _≤_};
+ghost use lib.ListN.{length, getD, set};
+ghost use Rattle.state.specs.State.{stateOf};
+ghost use Rattle.sink.specs.Sink.{Silent};
+ghost use Rattle.voice_turn.specs.Asks.{Room};
+ghost use Rattle.desk_render.specs.DeskRender.{Mixable};
+ghost use Rattle.render.specs.Render.{Playing, rendered, renderedOn, renderedBy, renderOf, framesOn};
+use params::Params;
+use turn::Render;
+
+// One render more has elapsed.
+fn count_render(longs: &mut [u64])
+    requires { ⌜ 1 ≤ length (now longs) ⌝ }
+    ensures { λ _. ⌜ now (longs .exit) ≡ set (now (longs .entry)) 0 ((getD (now (longs .entry)) 0 0 + 1) % 2 ^ 64) ⌝ }
+{
+    longs[0] = std::num::wrapping_add_u64(longs[0], 1);
+}
+
+// The sub-mixes and the sink. `row` is room for a row of samples, and `silent` has one of zeros.
+fn finish(
+    p: Params,
+    words: &[u32],
+    floats: &[f32],
+    buffers: &mut [f32],
+    row: &mut [f32],
+    silent: &[f32],
+    frames: &mut [f32],
+)
+    requires { ⌜ Mixable p (now words) (now floats) ⌝ ∗ ⌜ length (now row) ≡ p .«sample_count» ⌝ ∗ ⌜ Silent (p .«sample_count») (now silent) ⌝ ∗ ⌜ 2 * p .«sample_count» ≤ length (now frames) ⌝ }
+    ensures { λ _. ⌜ now (frames .exit) ≡ framesOn p (now (words .entry)) (now (floats .entry)) (now (buffers .entry)) (now (frames .entry)) ⌝ }
+{
+    desk_render::render_mixes(p, words, floats, buffers, row);
+    desk_render::write_sink(p, words, floats, buffers, silent, frames);
+}
+
+// A render into mix buffers that are lent, and with room that is lent.
+fn render_on(
+    p: Params,
+    r: Render,
+    memory: &[u8],
+    words: &mut [u32],
+    longs: &mut [u64],
+    floats: &mut [f32],
+    contexts: &mut [u16],
+    history: &mut [f32],
+    buffers: &mut [f32],
+    src: &mut [f32],
+    out: &mut [f32],
+    row: &mut [f32],
+    silent: &[f32],
+    frames: &mut [f32],
+) -> u32
+    requires { ⌜ Playing p r (now memory) 0 (stateOf (now words) (now longs) (now floats) (now contexts) (now history)) ⌝ ∗ ⌜ Room p (now src) (now out) ⌝ ∗ ⌜ length (now row) ≡ p .«sample_count» ⌝ ∗ ⌜ Silent (p .«sample_count») (now silent) ⌝ ∗ ⌜ 2 * p .«sample_count» ≤ length (now frames) ⌝ }
+    ensures { λ rounds. ⌜ rendered (stateOf (now (words .exit)) (now (longs .exit)) (now (floats .exit)) (now (contexts .exit)) (now (history .exit))) rounds (now (frames .exit))
+        ≡ renderedOn p r (now (memory .entry)) (stateOf (now (words .entry)) (now (longs .entry)) (now (floats .entry)) (now (contexts .entry)) (now (history .entry))) (now (buffers .entry)) (now (frames .entry)) ⌝ }
+{
+    count_render(longs);
+    let rounds = turns::render_voices(
+        p,
+        r,
+        memory,
+        words,
+        longs,
+        floats,
+        contexts,
+        history,
+        buffers,
+        src,
+        out,
+    );
+    finish(p, words, floats, buffers, row, silent, frames);
+    rounds
+}
+
+// A render: the rounds that its fetches took. The frames go to the front of a slice that has room for them. The mix buffers and the rows are made
+// once for all voices.
+pub fn render(
+    p: Params,
+    base: u64,
+    memory: &[u8],
+    words: &mut [u32],
+    longs: &mut [u64],
+    floats: &mut [f32],
+    contexts: &mut [u16],
+    history: &mut [f32],
+    frames: &mut [f32],
+) -> u32
+    requires { ⌜ Playing p (renderOf p base (length (now memory))) (now memory) 0 (stateOf (now words) (now longs) (now floats) (now contexts) (now history)) ⌝ ∗ ⌜ 2 * p .«sample_count» ≤ length (now frames) ⌝ }
+    ensures { λ rounds. ⌜ rendered (stateOf (now (words .exit)) (now (longs .exit)) (now (floats .exit)) (now (contexts .exit)) (now (history .exit))) rounds (now (frames .exit))
+        ≡ renderedBy p base (now (memory .entry)) (stateOf (now (words .entry)) (now (longs .entry)) (now (floats .entry)) (now (contexts .entry)) (now (history .entry))) (now (frames .entry)) ⌝ }
+{
+    let mut buffers = [0.0f32; 24576];
+    let mut src = [0.0f32; 4100];
+    let mut out = [0.0f32; 1536];
+    let mut row = [0.0f32; 256];
+    let silent = [0.0f32; 256];
+    let n = p.sample_count as usize;
+    let total = p.mix_buffers as usize * n;
+    let r = render_of(p, base, memory.len() as u64);
+    render_on(
+        p,
+        r,
+        memory,
+        words,
+        longs,
+        floats,
+        contexts,
+        history,
+        &mut buffers[..total],
+        &mut src,
+        &mut out,
+        &mut row[..n],
+        &silent,
+        frames,
+    )
+}
+
+// What a render gives to each voice.
+fn render_of(p: Params, base: u64, size: u64) -> Render
+    ensures { λ r. ⌜ r ≡ renderOf p base size ⌝ }
+{
+    Render {
+        sample_count: p.sample_count,
+        sample_rate: p.sample_rate,
+        buffers_v2: p.revision_number() >= 8,
+        base,
+        size,
+    }
+}

@@ -1,0 +1,4 @@
+pub mod RenderVoice
+pub mod Made
+pub mod Next
+pub mod Laws

@@ -1,0 +1,4 @@
+pub mod Played
+pub mod Asks
+pub mod Made
+pub mod Laws

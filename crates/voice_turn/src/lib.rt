@@ -1,0 +1,113 @@
+// The turn of a voice that is ready (mixer.rs `render_voice`), on the state's slices and the mix buffers.
+// What moves the voice's position (`turn::plan_turn`) is handed no sample.
+ghost use mathlib.Core.Path.{_≡_};
+ghost use Prim.Native.Nat.{ℕ, _+_, _*_};
+ghost use lib.ListN.{take};
+ghost use Rattle.rows.specs.Rows.{put};
+ghost use Rattle.state.specs.State.{stateOf};
+ghost use Rattle.sound_rows.specs.SoundRow.{contextsOf, historyOf};
+ghost use Rattle.playing.specs.Playing.{playedSound};
+ghost use Rattle.hearing.specs.Hearing.{soundIn, heardOut};
+ghost use Rattle.sending.specs.Sending.{routeOut};
+ghost use Rattle.state_voices.specs.StateVoices.{SoundInside};
+ghost use Rattle.voice_turn.specs.Played.{studio, materialOf, destined, sentBuffers, sentFloats, played};
+ghost use Rattle.voice_turn.specs.Asks.{Sounding, Sendable, Rendering};
+use params::Params;
+use turn::Render;
+use turn::Turn;
+use voice::Voice;
+
+// The sound of a turn: its rows are stored, and what is heard stands in the first rows of out.
+fn hear_turn(
+    t: Turn,
+    v: Voice,
+    r: Render,
+    memory: &[u8],
+    k: usize,
+    contexts: &mut [u16],
+    history: &mut [f32],
+    src: &mut [f32],
+    out: &mut [f32],
+)
+    requires { ⌜ Sounding t v r (now memory) (now src) (now out) ⌝ ∗ ⌜ SoundInside k (now contexts) (now history) ⌝ }
+    ensures { λ _. ⌜ now (contexts .exit) ≡ put (now (contexts .entry)) (k * 3) (contextsOf (playedSound (materialOf r (now (memory .entry)) v (soundIn k (now (contexts .entry)) (now (history .entry)))))) ⌝ }
+    ensures { λ _. ⌜ now (history .exit) ≡ put (now (history .entry)) (k * 18) (historyOf (playedSound (materialOf r (now (memory .entry)) v (soundIn k (now (contexts .entry)) (now (history .entry)))))) ⌝ }
+    ensures { λ _. ⌜ take (v .channels * r .«sample_count») (now (out .exit)) ≡ heardOut (materialOf r (now (memory .entry)) v (soundIn k (now (contexts .entry)) (now (history .entry)))) ⌝ }
+{
+    let s = turn::source_of(v, r);
+    let plan = t.plan;
+    hearing::hear(
+        plan,
+        s,
+        memory,
+        t.ratio,
+        t.fraction,
+        t.needed,
+        r.sample_count,
+        k,
+        contexts,
+        history,
+        src,
+        out,
+    );
+}
+
+// The sends of a turn, where the voice has a destination, of the first rows of out. What out holds afterwards is free.
+fn send_turn(
+    p: Params,
+    v: Voice,
+    from: f32,
+    to: f32,
+    out: &mut [f32],
+    words: &[u32],
+    floats: &mut [f32],
+    buffers: &mut [f32],
+)
+    requires { ⌜ Sendable p v (now out) (now words) (now floats) ⌝ }
+    ensures { λ _. ⌜ now (buffers .exit) ≡ sentBuffers (destined v) p v (routeOut from to (p .«sample_count») (v .channels) (now (out .entry))) (now (words .entry)) (now (floats .entry)) (now (buffers .entry)) ⌝ }
+    ensures { λ _. ⌜ now (floats .exit) ≡ sentFloats (destined v) p v (routeOut from to (p .«sample_count») (v .channels) (now (out .entry))) (now (words .entry)) (now (floats .entry)) (now (buffers .entry)) ⌝ }
+{
+    if voice::has_destination(v.mix_id, v.splitter_id) {
+        let ids = v.channel_ids;
+        sending::send(
+            p,
+            v.mix_id,
+            v.splitter_id,
+            v.channels,
+            ids,
+            from,
+            to,
+            out,
+            words,
+            floats,
+            buffers,
+        );
+    }
+}
+
+// The turn of a voice that is ready: planned, stored, heard and sent. Gives its rounds.
+pub fn render_ready(
+    p: Params,
+    r: Render,
+    memory: &[u8],
+    k: usize,
+    v: Voice,
+    words: &mut [u32],
+    longs: &mut [u64],
+    floats: &mut [f32],
+    contexts: &mut [u16],
+    history: &mut [f32],
+    buffers: &mut [f32],
+    src: &mut [f32],
+    out: &mut [f32],
+) -> u32
+    requires { ⌜ Rendering p r (now memory) k (stateOf (now words) (now longs) (now floats) (now contexts) (now history)) v (now src) (now out) ⌝ }
+    ensures { λ rounds. ⌜ ((n : ℕ) → studio (stateOf (now (words .exit)) (now (longs .exit)) (now (floats .exit)) (now (contexts .exit)) (now (history .exit))) (now (buffers .exit)) (n + rounds) ≡ played p r (now (memory .entry)) k v (studio (stateOf (now (words .entry)) (now (longs .entry)) (now (floats .entry)) (now (contexts .entry)) (now (history .entry))) (now (buffers .entry)) n)) ⌝ }
+{
+    let t = turn::plan_turn(v, r);
+    let voice = t.voice;
+    state_voices::store_voice_at(k, voice, words, longs, floats);
+    hear_turn(t, v, r, memory, k, contexts, history, src, out);
+    send_turn(p, v, t.from, t.to, out, words, floats, buffers);
+    t.plan.rounds
+}
