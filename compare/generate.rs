@@ -71,6 +71,14 @@ pub fn rows(r: &mut Random, len: u64, flush: u32) -> Rows {
         longs[l] = address(r, len);
         longs[l + 1] = if r.below(8) == 0 { r.next() } else { r.below(512) };
         longs[l + 2] = if r.below(3) == 0 { 0 } else { address(r, len) };
+        if r.below(16) == 0 {
+            // So far before memory that the sum with the first sample's place goes round and lands in it.
+            let frame = if words[3] == 5 { 4 } else { 2 } * u64::from(words[5]);
+            words[w] = r.next() as u32 | 0x8000_0000;
+            words[w + 1] = words[w].saturating_add(r.below(50) as u32);
+            longs[l] = (BASE + r.below(len + 1)).wrapping_sub(u64::from(words[w]) * frame);
+            longs[l + 1] = 1 << 62;
+        }
     }
     let floats = (0..FLOATS).map(|k| if k == 3 { r.below(1 << 24) as f32 / (1 << 24) as f32 } else { r.float() }).collect();
     let context = (0..3).map(|_| r.next() as u16).collect();
