@@ -3,14 +3,9 @@ use oracle::dsp;
 use std::hint::black_box;
 use std::time::Instant;
 
-#[repr(C)]
-struct ProbeDecoded {
-    number: u32,
-    done: u64,
-    pred_scale: u16,
-    history0: i16,
-    history1: i16,
-}
+#[path = "../compare/probed.rs"]
+mod probed;
+use probed::ProbeDecoded;
 
 unsafe extern "C" {
     fn probe_decode_adpcm(

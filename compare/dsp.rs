@@ -2,25 +2,11 @@
 //!
 //! `dsp [SEED [COUNT]]` compares; COUNT is the number of random ADPCM calls and of resamples beyond the exhaustive ones.
 //! `dsp store STDIN STDOUT` writes cases and the oracle's answers for the program replay_main.
+mod probed;
 mod random;
 use oracle::dsp;
+use probed::{ProbeContext, ProbeDecoded};
 use random::{Random, bits};
-
-#[repr(C)]
-struct ProbeDecoded {
-    number: u32,
-    done: u64,
-    pred_scale: u16,
-    history0: i16,
-    history1: i16,
-}
-
-#[repr(C)]
-struct ProbeContext {
-    pred_scale: u16,
-    history0: i16,
-    history1: i16,
-}
 
 unsafe extern "C" {
     fn probe_decode_adpcm(

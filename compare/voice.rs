@@ -4,18 +4,13 @@
 //! `voice limits` compares one prepare with the largest flush count, which walks 2^32 - 1 turns on both sides (minutes).
 #[allow(dead_code)]
 mod generate;
+mod probed;
 mod random;
 use generate::{BASE, rows};
 use oracle::mixer::probe::{FLOATS, LONGS, Probe, Rows, WORDS};
 use oracle::{Memory, take_rounds};
+use probed::ProbeContext;
 use random::{Random, bits};
-
-#[repr(C)]
-struct ProbeContext {
-    pred_scale: u16,
-    history0: i16,
-    history1: i16,
-}
 
 unsafe extern "C" {
     fn probe_prepare(
