@@ -1,6 +1,7 @@
 //! Holds an update to kirikae's `Renderer::update`: the reply's bytes and the whole state after it, from any whole state.
 //!
 //! `update [SEED [COUNT]]` compares COUNT updates, well-formed, cut short, damaged and of any bytes, over revisions 0 to 11 and the word 0.
+//! `update lengths` compares 40 well-formed inputs cut short at every length.
 mod generate;
 mod inputs;
 mod random;
@@ -32,8 +33,35 @@ fn port(before: &Slices, input: &[u8], expected: u32, room: usize) -> (u32, Slic
     (number, s, reply)
 }
 
+/// Inputs cut short at every length from 0 on, each on a state of its own.
+fn lengths(inputs: u64) -> bool {
+    let r = &mut Random(11);
+    let (mut compared, mut differ, mut done) = (0u64, 0u64, 0);
+    while done < inputs {
+        let before = state(r, 2000);
+        let (bytes, kind) = input(r, &before.words, 2000);
+        if kind != 0 || bytes.len() > 12_000 {
+            continue;
+        }
+        done += 1;
+        for n in 0..=bytes.len() {
+            let oracle = Probe::restore(&before);
+            let reply = oracle.update(&bytes[..n], 0x2000);
+            let (answer, slices, out) = port(&before, &bytes[..n], 0x2000, reply.len());
+            compared += 1;
+            differ += u64::from(answer != 0 || out != reply || seen(&slices) != seen(&oracle.slices()));
+        }
+    }
+    println!("{inputs} inputs, each cut short at every length");
+    println!("{compared} compared, {differ} differ");
+    differ == 0
+}
+
 fn main() {
     let args: Vec<String> = std::env::args().skip(1).collect();
+    if args.first().is_some_and(|a| a == "lengths") {
+        std::process::exit(i32::from(!lengths(40)));
+    }
     let number = |k: usize, d| args.get(k).map_or(d, |a| a.parse().expect("a number"));
     let (r, count) = (&mut Random(number(0, 1)), number(1, 100_000));
     let (mut compared, mut differ) = (0u64, 0u64);
