@@ -58,7 +58,7 @@ module _ {p : Params} {r : Render} {m : List ℕ} {st : State} (h : Playing p r 
       ap (part 14 (1 + j * 14)) (put-one (st .longs) 0 v some)
       ∙ part-put-after (st .longs) 0 (v ∷ []) (omega arith) 14 (1 + j * 14) (omega arith)
 
-  voice-same : (j : ℕ) → voiceIn j (elapsed st) ≡ voiceIn j st
+  pub voice-same : (j : ℕ) → voiceIn j (elapsed st) ≡ voiceIn j st
   unfolding voiceOn elapsed
   voice-same j = λ i. voiceOf (part 58 (10 + j * 58) (st .words)) (longs-same j i) (part 4 (j * 4) (st .floats))
 

@@ -59,7 +59,7 @@ module _ {p : Params} {v : Voice} (q : Playing (p .voices) v) (out : List Float)
 
 module _ {p : Params} (r : Render) (m : List ℕ) {k : ℕ} {v : Voice} {st : State} (z : Sized p st) (h : k < p .voices) (q : Playing (p .voices) v) (size : r .size ≡ length m) where
   -- the history that it keeps
-  kept-long : length (historyOf (playedSound (turnMaterial r m k v st))) ≡ 18
+  pub kept-long : length (historyOf (playedSound (turnMaterial r m k v st))) ≡ 18
   unfolding historyOf playedSound materialOf turnOf plannedBy
   kept-long =
       length-history (turnMaterial r m k v st) (length-soundIn k (st .contexts) (st .history) (omega (arith, z .history))) (q .channels) size

@@ -1,0 +1,1 @@
+// What each call answers and leaves: the crate is its specs/.

@@ -1,0 +1,7 @@
+pub mod Opened
+pub mod Parts
+pub mod Sections
+pub mod Writing
+pub mod Laws
+pub mod Whole
+pub mod Written

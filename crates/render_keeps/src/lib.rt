@@ -1,0 +1,1 @@
+// A render leaves a whole state whole: the crate is its specs/.

@@ -1,0 +1,48 @@
+// What the calls answer. Beside each refusal stands its number.
+
+// How long the five slices of a renderer's state must be.
+pub struct Lengths {
+    pub words: usize,
+    pub longs: usize,
+    pub floats: usize,
+    pub contexts: usize,
+    pub history: usize,
+}
+
+pub enum LengthsAnswer {
+    Lengths(Lengths),
+    // 1: samples per render
+    Samples,
+    // 2: another count
+    Counts,
+}
+
+pub enum OpenAnswer {
+    Opened,
+    // 1: samples per render
+    Samples,
+    // 2: another count
+    Counts,
+    // 3: the lengths of the state's slices
+    Lengths,
+}
+
+pub enum UpdateAnswer {
+    // The length of the reply.
+    Updated(usize),
+    // 4: the state
+    NotWhole,
+    // 6: the reply slice
+    ShortReply,
+}
+
+pub enum RenderAnswer {
+    // The rounds that the fetches took, of all voices.
+    Rendered(u32),
+    // 4: the state
+    NotWhole,
+    // 5: base and length of sample memory
+    FarMemory,
+    // 7: the frame slice
+    ShortFrames,
+}

@@ -1,0 +1,67 @@
+-- Every call of a session finds a whole state and leaves one: no call of a session is refused by 4. Assumes nothing.
+use mathlib.Core.Path.{_≡_, refl, sym, subst}
+use mathlib.Core.Bool.{Bool, true, false}
+use mathlib.Core.List.{List, [], _∷_, List·Memᴰ, List·Memᴰ·head, List·Memᴰ·tail}
+use Prim.Native.Nat.{ℕ, zero, suc}
+use native.Mathlib.Omega.{arith}
+use lib.Ieee.{Float}
+use Rattle.params.specs.declared.params.Params.{Params}
+use Rattle.state.specs.State.{State}
+use Rattle.whole.specs.Whole.{Whole}
+use Rattle.update_keeps.specs.Update.{update-whole}
+use Rattle.render_keeps.specs.Keeps.{render-whole}
+use Rattle.opened.specs.Whole.{opened-whole}
+use Rattle.calls.specs.Calls.{UpdateOutcome, updateDone, RenderOutcome, renderDone, openCall}
+use Rattle.secrecy.specs.Sessions.{Call, update, render, after, Said, said, stateAt, saidAll}
+use Rattle.secrecy.specs.Demand.{begun}
+use Rattle.secrecy.specs.Updates.{roomBy, update-is}
+use Rattle.secrecy.specs.Renders.{askedBy, render-is}
+use Rattle.secrecy.specs.Opens.{opens}
+
+-- the state is whole, and the number is not 4
+pub record Fine (st : State) (number : ℕ) : Type 0 where
+  pub whole : Whole st
+  pub other : number ≡ 4 → ⊥
+
+-- ---- one call
+
+module _ (st : State) (w : Whole st) where
+  update-fine : (expected : ℕ) (input reply : List ℕ) (t : Bool) → Fine (roomBy t st expected input reply .state) (roomBy t st expected input reply .number)
+  unfolding roomBy updateDone
+  update-fine expected input reply true = record { whole = update-whole st w input; other = λ e. omega arith }
+  update-fine expected input reply false = record { whole = w; other = λ e. omega arith }
+
+  render-fine : (base : ℕ) (m : List ℕ) (frames : List Float) (t u : Bool) → Fine (askedBy t u st base m frames .state) (askedBy t u st base m frames .number)
+  unfolding askedBy renderDone
+  render-fine base m frames true true = record { whole = render-whole st w base m frames; other = λ e. omega arith }
+  render-fine base m frames true false = record { whole = w; other = λ e. omega arith }
+  render-fine base m frames false u = record { whole = w; other = λ e. omega arith }
+
+  pub call-fine : (c : Call) → Fine (after st c) (said st c .number)
+  call-fine (update expected input reply) =
+      subst (λ (o : UpdateOutcome). Fine (o .state) (o .number)) (sym (update-is st w expected input reply)) (update-fine expected input reply _)
+  call-fine (render base m frames) =
+      subst (λ (o : RenderOutcome). Fine (o .state) (o .number)) (sym (render-is st w base m frames)) (render-fine base m frames _ _)
+
+-- ---- a list of calls
+
+whole-at : (st : State) → Whole st → (cs : List Call) (r : ℕ) → Whole (stateAt st cs r)
+whole-at st w [] r = w
+whole-at st w (c ∷ cs) zero = w
+whole-at st w (c ∷ cs) (suc r) = whole-at (after st c) (call-fine st w c .whole) cs r
+
+said-other : (st : State) → Whole st → (cs : List Call) (s : Said) → List·Memᴰ s (saidAll st cs) → s .number ≡ 4 → ⊥
+said-other st w (c ∷ cs) s (List·Memᴰ·head e) = subst (λ (x : Said). x .number ≡ 4 → ⊥) (sym e) (call-fine st w c .other)
+said-other st w (c ∷ cs) s (List·Memᴰ·tail i) = said-other (after st c) (call-fine st w c .whole) cs s i
+
+-- ---- a session
+
+module _ (p : Params) (a : State) (o : openCall p a .number ≡ 0) where
+  begun-whole : Whole (begun p a)
+  begun-whole = subst Whole (sym (opens p a o .0)) (opened-whole p (opens p a o .1))
+
+  pub session-whole : (cs : List Call) (r : ℕ) → Whole (stateAt (begun p a) cs r)
+  session-whole = whole-at (begun p a) begun-whole
+
+  pub never-four : (cs : List Call) (s : Said) → List·Memᴰ s (saidAll (begun p a) cs) → s .number ≡ 4 → ⊥
+  never-four = said-other (begun p a) begun-whole

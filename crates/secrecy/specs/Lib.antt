@@ -1,0 +1,12 @@
+pub mod Sessions
+pub mod Declared
+pub mod Demand
+pub mod Both
+pub mod Updates
+pub mod Renders
+pub mod Steps
+pub mod Lists
+pub mod Opens
+pub mod Secrecy
+pub mod Kept
+pub mod Range

@@ -1,0 +1,1 @@
+// An update of two states that differ at most in sound: the crate is its specs/.

@@ -1,0 +1,59 @@
+-- An update leaves a whole state whole. Assumes nothing.
+use mathlib.Core.Path.{_≡_}
+use mathlib.Core.List.{List}
+use Prim.Native.Nat.{ℕ}
+use Rattle.params.specs.declared.params.Params.{Params}
+use Rattle.params.specs.declared.sections.Sections.{Sections}
+use Rattle.params.specs.Sections.{sectionsOf}
+use Rattle.state.specs.State.{State, Sized, paramsIn}
+use Rattle.whole.specs.Whole.{Whole}
+use Rattle.updates.specs.Update.{Desk, Updatable, deskOf, afterVoices, afterDesk, updated}
+use Rattle.updates.specs.Whole.{resources-keep, first-keep}
+use Rattle.updates.specs.FromWhole.{whole-updatable}
+use Rattle.update_keeps.specs.Rows.{Rows, rows-of, rows-whole}
+use Rattle.update_keeps.specs.FirstSteps.{resources-rows, voices-rows}
+use Rattle.update_keeps.specs.DeskSteps.{lists-rows, mixes-rows, sinks-rows}
+
+-- ---- the rows after the resources and voices, and then after the desk
+
+first-rows : (p : Params) (s : Sections) (input : List ℕ) (st : State) → Updatable p st → Rows p (st .words) (st .floats)
+    → Rows p (afterVoices p s input st .words) (afterVoices p s input st .floats)
+unfolding afterVoices
+first-rows p s input st u h = voices-rows p _ _ (resources-rows p _ st h) (resources-keep p _ st u .sized)
+
+desk-rows : (p : Params) (s : Sections) (input : List ℕ) (k : Desk) → Rows p (k .words) (k .floats)
+    → Rows p (afterDesk p s input k .words) (afterDesk p s input k .floats)
+unfolding afterDesk
+desk-rows p s input k h = sinks-rows p _ _ (mixes-rows p _ _ (lists-rows p _ k h))
+
+-- ---- the whole update
+
+module _ (st : State) (w : Whole st) (input : List ℕ) where
+  abbrev after : State
+  after = updated (paramsIn st) input st
+
+  after-rows : Rows (paramsIn st) (after .words) (after .floats)
+  unfolding updated
+  after-rows =
+      let p = paramsIn st in
+      let s = sectionsOf input in
+      desk-rows p s input (deskOf (afterVoices p s input st)) (first-rows p s input st (whole-updatable st w) (rows-of st w))
+
+  after-sized : Sized (paramsIn st) after
+  unfolding updated
+  after-sized =
+      let s = first-keep (paramsIn st) (sectionsOf input) input st (whole-updatable st w) .sized in
+      record {
+        words = after-rows .words-long;
+        longs = s .longs;
+        floats = after-rows .floats-long;
+        contexts = s .contexts;
+        history = s .history;
+      }
+
+-- the parameters stay
+pub update-params : (st : State) → Whole st → (input : List ℕ) → paramsIn (updated (paramsIn st) input st) ≡ paramsIn st
+update-params st w input = after-rows st w input .params
+
+pub update-whole : (st : State) → Whole st → (input : List ℕ) → Whole (updated (paramsIn st) input st)
+update-whole st w input = rows-whole (paramsIn st) (after st w input) (after-rows st w input) (after-sized st w input)

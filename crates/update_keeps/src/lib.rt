@@ -1,0 +1,1 @@
+// An update leaves a whole state whole: the crate is its specs/.
