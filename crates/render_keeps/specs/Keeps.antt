@@ -8,12 +8,9 @@ use lib.ListN.{length, getD, replicate}
 use Rattle.floats.specs.Defs.{zero32}
 use Rattle.params.specs.declared.params.Params.{Params}
 use Rattle.params.specs.Params.{paramsOf, params-part}
-use Rattle.params.specs.Sizes.{Allowed}
 use Rattle.state.specs.State.{State, Sized, mixesOf, mixWords, sinkWords, listWords, paramsIn, voiceWordsIn, voiceFloatsIn, mixWordsIn, sinkWordsIn, listWordsIn}
-use Rattle.desk_rows.specs.DeskRows.{listLength}
-use Rattle.row_tests.specs.Voices.{VoiceWhole}
-use Rattle.row_tests.specs.Desk.{MixWhole, SinkWhole}
-use Rattle.whole.specs.Whole.{Whole, whole-made}
+use Rattle.whole.specs.Whole.{Whole}
+use Rattle.whole_rows.specs.Rows.{rows-whole}
 use Rattle.turn.specs.declared.Render.{Render}
 use Rattle.voice_turn.specs.Played.{studio}
 use Rattle.render.specs.Render.{elapsed, renderOf, renderedOn, renderedBy}
@@ -21,23 +18,6 @@ use Rattle.render.specs.Laws.{elapsed-playing}
 use Rattle.render.specs.FromWhole.{whole-playing}
 use Rattle.render_keeps.specs.Rows.{row-marks, row-whole}
 use Rattle.render_keeps.specs.Turns.{Kept, voices-kept}
-
--- ---- a state that is whole by parameters p
-
-record WholeBy (p : Params) (st : State) : Type 0 where
-  allowed : Allowed p
-  sized : Sized p st
-  voices : (i : ℕ) → i < p .voices → VoiceWhole (p .voices) (voiceWordsIn p (st .words)) (voiceFloatsIn p (st .floats)) i
-  mixes : (m : ℕ) → m < mixesOf p → MixWhole (mixWordsIn p (st .words)) m
-  sinks : (k : ℕ) → k < p .sinks → SinkWhole (sinkWordsIn p (st .words)) k
-  lengths : (s : ℕ) → s < p .splitters → listLength (listWordsIn p (st .words)) s ≤ p .«splitter_destinations»
-  destinations : (d : ℕ) → d < p .«splitter_destinations» → getD (listWordsIn p (st .words)) (p .splitters * 129 + d * 2) 0 ≤ 1
-
--- where they are its own
-by-its-own : {p : Params} {st : State} → paramsIn st ≡ p → WholeBy p st → Whole st
-by-its-own {p} {st} e h =
-    let w : WholeBy (paramsIn st) st = subst (λ (q : Params). WholeBy q st) (sym e) h in
-    whole-made st (omega (arith, w .sized .words)) (w .allowed) (w .sized) (w .voices) (w .mixes) (w .sinks) (w .lengths) (w .destinations)
 
 -- ---- before the first voice, and after the last
 
@@ -69,16 +49,19 @@ module _ (st : State) (h : Whole st) (base : ℕ) (m : List ℕ) where
       let mixes = q .behind (mixesOf p * 5) (mixWords p) (omega arith) in
       let sinks = q .behind (p .sinks * 10) (sinkWords p) (omega arith) in
       let lists = q .behind (p .splitters * 129 + p .«splitter_destinations» * 2) (listWords p) (omega arith) in
-      by-its-own (kept-params q)
+      rows-whole p b
       (record {
+        params = kept-params q;
         allowed = h .allowed;
-        sized = q .desk .sized;
+        words-long = q .desk .sized .words;
+        floats-long = q .desk .sized .floats;
         voices = λ j l. row-whole p b j l (q .marks j l) (q .voices j l);
         mixes = rw mixes (h .mix-rows);
         sinks = rw sinks (h .sinks);
         lengths = rw lists (h .lists .lengths);
-        destinations = rw lists (h .destinations);
+        flags = rw lists (h .destinations);
       })
+      (q .desk .sized)
 
   render-kept : (frames : List Float) → Kept p r m st (renderedBy p base m st frames .state)
   unfolding renderedBy renderedOn

@@ -1,77 +1,16 @@
--- The marks in a voice's row of 58 words: each flag is 0 or 1 and the play mark at most 3, in the row of every voice that is stored. Assumes nothing.
-use mathlib.Core.Path.{_≡_, refl, ap, sym, subst, _∙_}
-use mathlib.Core.Bool.{Bool, true, false}
+-- The rows of n voices, each with its marks in range, and one that is stored among them. Assumes nothing.
+use mathlib.Core.Path.{_≡_, refl, ap, sym, subst}
 use mathlib.Core.Logic.{_⊎_, inl, inr, ⊎-elim}
 use mathlib.Core.List.{List}
 use Prim.Native.Nat.{ℕ, zero, suc, _+_, _*_, _≤_, _<_}
 use native.Mathlib.Omega.{arith}
-use lib.ListN.{length, getD}
+use lib.ListN.{length}
 use Rattle.rows.specs.Rows.{part, put, part-put-same}
 use Rattle.rows.specs.Folds.{row-end}
-use Rattle.sound_rows.specs.Spelled.{part-at}
-use Rattle.voice.specs.declared.play.Play.{Play}
-use Rattle.voice.specs.declared.play.Play.the-variants.{Started, Stopped, Stopping, Paused}
 use Rattle.voice.specs.declared.Voice.{Voice}
-use Rattle.voice_rows.specs.WaveRow.{wordOfFlag, wordsOfWave}
-use Rattle.voice_rows.specs.VoiceRow.{wordOfPlay, headOf, waveAt, wordsOf, length-words}
+use Rattle.voice_rows.specs.VoiceRow.{wordsOf, length-words}
 use Rattle.state_voices.specs.Rows.{put-apart, before-or-after}
-
--- in_use, fresh, play and valid; of wave buffer b looping, end_of_stream and pending
-pub record Marks (row : List ℕ) : Type 0 where
-  pub used : getD row 0 0 ≤ 1
-  pub fresh : getD row 1 0 ≤ 1
-  pub play : getD row 2 0 ≤ 3
-  pub valid : (k : ℕ) → k < 4 → getD row (18 + k) 0 ≤ 1
-  pub looping : (b : ℕ) → b < 4 → getD row (26 + b * 8 + 2) 0 ≤ 1
-  pub end-of-stream : (b : ℕ) → b < 4 → getD row (26 + b * 8 + 3) 0 ≤ 1
-  pub pending : (b : ℕ) → b < 4 → getD row (26 + b * 8 + 7) 0 ≤ 1
-
--- ---- a voice that is stored
-
-flag-small : (b : Bool) → wordOfFlag b ≤ 1
-flag-small true = omega arith
-flag-small false = omega arith
-
-play-small : (p : Play) → wordOfPlay p ≤ 3
-play-small Started = omega arith
-play-small Stopped = omega arith
-play-small Stopping = omega arith
-play-small Paused = omega arith
-
-module _ (v : Voice) where
-  valid-small : (k : ℕ) → k < 4 → getD (wordsOf v) (18 + k) 0 ≤ 1
-  unfolding wordsOf headOf
-  valid-small zero h = flag-small (getD (v .valid) 0 false)
-  valid-small (suc zero) h = flag-small (getD (v .valid) 1 false)
-  valid-small (suc (suc zero)) h = flag-small (getD (v .valid) 2 false)
-  valid-small (suc (suc (suc zero))) h = flag-small (getD (v .valid) 3 false)
-  valid-small (suc (suc (suc (suc k)))) h = absurd (omega arith)
-
-  -- the eight words of wave buffer b
-  wave-part : (b : ℕ) → b < 4 → part 8 (26 + b * 8) (wordsOf v) ≡ wordsOfWave (waveAt v b)
-  unfolding wordsOf headOf wordsOfWave part
-  wave-part zero h = refl
-  wave-part (suc zero) h = refl
-  wave-part (suc (suc zero)) h = refl
-  wave-part (suc (suc (suc zero))) h = refl
-  wave-part (suc (suc (suc (suc b)))) h = absurd (omega arith)
-
-  wave-word : (b : ℕ) → b < 4 → (k : ℕ) → k < 8 → getD (wordsOf v) (26 + b * 8 + k) 0 ≡ getD (wordsOfWave (waveAt v b)) k 0
-  wave-word b h k l = sym (part-at 8 (26 + b * 8) (wordsOf v) k 0 l) ∙ ap (λ (r : List ℕ). getD r k 0) (wave-part b h)
-
-  pub marks-stored : Marks (wordsOf v)
-  unfolding wordsOf headOf wordsOfWave
-  marks-stored = record {
-    used = flag-small (v .«in_use»);
-    fresh = flag-small (v .fresh);
-    play = play-small (v .play);
-    valid = valid-small;
-    looping = λ b h. rw (wave-word b h 2 (omega arith)) (flag-small (waveAt v b .looping));
-    end-of-stream = λ b h. rw (wave-word b h 3 (omega arith)) (flag-small (waveAt v b .«end_of_stream»));
-    pending = λ b h. rw (wave-word b h 7 (omega arith)) (flag-small (waveAt v b .pending));
-  }
-
--- ---- the rows of n voices
+use Rattle.whole_rows.specs.Marks.{Marks, marks-stored}
 
 -- words 10 + j * 58 and on are those of voice j
 abbrev pub rowIn : ℕ → List ℕ → List ℕ

@@ -17,7 +17,8 @@ use Rattle.sound_rows.specs.Spelled.{part-at}
 use Rattle.voice_rows.specs.VoiceRow.{voiceOf}
 use Rattle.row_tests.specs.Voices.{VoiceWhole}
 use Rattle.state_voices.specs.StateVoices.{Playable, voiceOn}
-use Rattle.render_keeps.specs.Marks.{Marks, rowIn}
+use Rattle.whole_rows.specs.Marks.{Marks}
+use Rattle.render_keeps.specs.Marks.{rowIn}
 
 six-at : (f : ℕ → ℕ) (k : ℕ) → k < 6 → getD (f 0 ∷ f 1 ∷ f 2 ∷ f 3 ∷ f 4 ∷ f 5 ∷ []) k 0 ≡ f k
 unfolding table

@@ -18,18 +18,19 @@ use Rattle.splitters.specs.Laws.{ListsFit, FlagsFit, sized-kept, lists-kept, fl
 use Rattle.row_tests.specs.Desk.{MixWhole, SinkWhole}
 use Rattle.updates.specs.Update.{Desk, listsIn, withLists, mixesIn, withMixes, sinksIn, withSinks}
 use Rattle.update_keeps.specs.Desk.{mixes-kept, sinks-kept}
-use Rattle.update_keeps.specs.Rows.{Rows, put-long, put-same, put-before, put-after, put-params}
+use Rattle.whole_rows.specs.Rows.{RowsWhole}
+use Rattle.update_keeps.specs.Puts.{put-long, put-same, put-before, put-after, put-params}
 
 -- ---- rows put behind those of the voices and resources
 
-module _ (p : Params) (k : Desk) (h : Rows p (k .words) (k .floats)) (a w : ℕ) (r : List ℕ) (long : length r ≡ w) (room : a + w ≤ length (k .words))
+module _ (p : Params) (k : Desk) (h : RowsWhole p (k .words) (k .floats)) (a w : ℕ) (r : List ℕ) (long : length r ≡ w) (room : a + w ≤ length (k .words))
     (c v : ℕ) (q : List Float) (long-f : length q ≡ v) (room-f : c + v ≤ length (k .floats)) (behind : mixWords p ≤ a) (behind-f : mixFloats p ≤ c) where
   -- what is left to show
   desk-rows : ((m : ℕ) → m < mixesOf p → MixWhole (mixWordsIn p (put (k .words) a r)) m)
       → ((j : ℕ) → j < p .sinks → SinkWhole (sinkWordsIn p (put (k .words) a r)) j)
       → ListsFit (p .splitters) (p .«splitter_destinations») (listWordsIn p (put (k .words) a r))
       → FlagsFit (p .splitters) (p .«splitter_destinations») (listWordsIn p (put (k .words) a r))
-      → Rows p (put (k .words) a r) (put (k .floats) c q)
+      → RowsWhole p (put (k .words) a r) (put (k .floats) c q)
   desk-rows mixes sinks lengths flags =
       let words : voiceWordsIn p (put (k .words) a r) ≡ voiceWordsIn p (k .words) = put-before (k .words) a w r long room (p .voices * 58) 10 behind in
       let floats : voiceFloatsIn p (put (k .floats) c q) ≡ voiceFloatsIn p (k .floats) =
@@ -46,7 +47,7 @@ module _ (p : Params) (k : Desk) (h : Rows p (k .words) (k .floats)) (a w : ℕ)
         flags = flags;
       }
 
-module _ (p : Params) (d : List ℕ) (k : Desk) (h : Rows p (k .words) (k .floats)) where
+module _ (p : Params) (d : List ℕ) (k : Desk) (h : RowsWhole p (k .words) (k .floats)) where
   -- ---- splitters and destinations
 
   abbrev listsWide : ℕ
@@ -60,7 +61,7 @@ module _ (p : Params) (d : List ℕ) (k : Desk) (h : Rows p (k .words) (k .float
     floats-long = length-part (p .«splitter_destinations» * 48) (destinationFloats p) (k .floats) (omega (arith, h .floats-long));
   }
 
-  pub lists-rows : Rows p (withLists p d k .words) (withLists p d k .floats)
+  pub lists-rows : RowsWhole p (withLists p d k .words) (withLists p d k .floats)
   unfolding withLists
   lists-rows =
       let ns = p .splitters in
@@ -89,7 +90,7 @@ module _ (p : Params) (d : List ℕ) (k : Desk) (h : Rows p (k .words) (k .float
     counts = λ m l. h .mixes m l .buffers;
   }
 
-  pub mixes-rows : Rows p (withMixes p d k .words) (withMixes p d k .floats)
+  pub mixes-rows : RowsWhole p (withMixes p d k .words) (withMixes p d k .floats)
   unfolding withMixes
   mixes-rows =
       let n = mixesOf p in
@@ -115,7 +116,7 @@ module _ (p : Params) (d : List ℕ) (k : Desk) (h : Rows p (k .words) (k .float
     floats-long = length-part (p .sinks * 4) (sinkFloats p) (k .floats) (omega (arith, h .floats-long));
   }
 
-  pub sinks-rows : Rows p (withSinks p d k .words) (withSinks p d k .floats)
+  pub sinks-rows : RowsWhole p (withSinks p d k .words) (withSinks p d k .floats)
   unfolding withSinks
   sinks-rows =
       let n = p .sinks in

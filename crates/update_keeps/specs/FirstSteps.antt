@@ -14,10 +14,11 @@ use Rattle.voices.specs.Voices.{VoiceRows, VoicesSized, rowsOf}
 use Rattle.voices.specs.Own.{voices-sized}
 use Rattle.updates.specs.Update.{withResources, voiceRowsIn, withVoices}
 use Rattle.update_keeps.specs.Voices.{voice-kept}
-use Rattle.update_keeps.specs.Rows.{Rows, put-long, put-same, put-before, put-after, put-params}
+use Rattle.whole_rows.specs.Rows.{RowsWhole}
+use Rattle.update_keeps.specs.Puts.{put-long, put-same, put-before, put-after, put-params}
 
-module _ (p : Params) (d : List ℕ) (st : State) (h : Rows p (st .words) (st .floats)) where
-  pub resources-rows : Rows p (withResources p d st .words) (withResources p d st .floats)
+module _ (p : Params) (d : List ℕ) (st : State) (h : RowsWhole p (st .words) (st .floats)) where
+  pub resources-rows : RowsWhole p (withResources p d st .words) (withResources p d st .floats)
   unfolding withResources
   resources-rows =
       let at = resourceFloats p in
@@ -52,7 +53,7 @@ module _ (p : Params) (d : List ℕ) (st : State) (h : Rows p (st .words) (st .f
       history = s .history;
     }
 
-    pub voices-rows : Rows p (withVoices p d st .words) (withVoices p d st .floats)
+    pub voices-rows : RowsWhole p (withVoices p d st .words) (withVoices p d st .floats)
     unfolding withVoices voiceRowsIn
     voices-rows =
         let n = p .voices in

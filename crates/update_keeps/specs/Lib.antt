@@ -1,7 +1,7 @@
 pub mod VoiceRow
 pub mod Voices
 pub mod Desk
-pub mod Rows
+pub mod Puts
 pub mod FirstSteps
 pub mod DeskSteps
 pub mod Update

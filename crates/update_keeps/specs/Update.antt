@@ -10,19 +10,19 @@ use Rattle.whole.specs.Whole.{Whole}
 use Rattle.updates.specs.Update.{Desk, Updatable, deskOf, afterVoices, afterDesk, updated}
 use Rattle.updates.specs.Whole.{resources-keep, first-keep}
 use Rattle.updates.specs.FromWhole.{whole-updatable}
-use Rattle.update_keeps.specs.Rows.{Rows, rows-of, rows-whole}
+use Rattle.whole_rows.specs.Rows.{RowsWhole, rows-of, rows-whole}
 use Rattle.update_keeps.specs.FirstSteps.{resources-rows, voices-rows}
 use Rattle.update_keeps.specs.DeskSteps.{lists-rows, mixes-rows, sinks-rows}
 
 -- ---- the rows after the resources and voices, and then after the desk
 
-first-rows : (p : Params) (s : Sections) (input : List ℕ) (st : State) → Updatable p st → Rows p (st .words) (st .floats)
-    → Rows p (afterVoices p s input st .words) (afterVoices p s input st .floats)
+first-rows : (p : Params) (s : Sections) (input : List ℕ) (st : State) → Updatable p st → RowsWhole p (st .words) (st .floats)
+    → RowsWhole p (afterVoices p s input st .words) (afterVoices p s input st .floats)
 unfolding afterVoices
 first-rows p s input st u h = voices-rows p _ _ (resources-rows p _ st h) (resources-keep p _ st u .sized)
 
-desk-rows : (p : Params) (s : Sections) (input : List ℕ) (k : Desk) → Rows p (k .words) (k .floats)
-    → Rows p (afterDesk p s input k .words) (afterDesk p s input k .floats)
+desk-rows : (p : Params) (s : Sections) (input : List ℕ) (k : Desk) → RowsWhole p (k .words) (k .floats)
+    → RowsWhole p (afterDesk p s input k .words) (afterDesk p s input k .floats)
 unfolding afterDesk
 desk-rows p s input k h = sinks-rows p _ _ (mixes-rows p _ _ (lists-rows p _ k h))
 
@@ -32,7 +32,7 @@ module _ (st : State) (w : Whole st) (input : List ℕ) where
   abbrev after : State
   after = updated (paramsIn st) input st
 
-  after-rows : Rows (paramsIn st) (after .words) (after .floats)
+  after-rows : RowsWhole (paramsIn st) (after .words) (after .floats)
   unfolding updated
   after-rows =
       let p = paramsIn st in

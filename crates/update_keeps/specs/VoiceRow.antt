@@ -9,12 +9,11 @@ use lib.Dec.{T}
 use lib.Ieee.{Float, nan}
 use lib.ListN.{getD}
 use Rattle.floats.specs.Unit.{inUnit}
-use Rattle.voice.specs.declared.play.Play.{Play}
-use Rattle.voice.specs.declared.play.Play.the-variants.{Started, Stopped, Stopping, Paused}
 use Rattle.voice.specs.declared.Voice.{Voice}
 use Rattle.voice_rows.specs.WaveRow.{wordOfFlag, wordsOfWave}
-use Rattle.voice_rows.specs.VoiceRow.{wordOfPlay, headOf, waveAt, wordsOf, floatsOf}
+use Rattle.voice_rows.specs.VoiceRow.{headOf, wordsOf, floatsOf}
 use Rattle.row_tests.specs.Voices.{VoiceWhole}
+use Rattle.whole_rows.specs.Marks.{marks-stored}
 
 -- ---- a row with the words of another
 
@@ -49,26 +48,9 @@ module _ (n : ℕ) (words words′ : List ℕ) (floats floats′ : List Float) (
 
 -- ---- the row of a voice
 
-flag-low : (b : Bool) → wordOfFlag b ≤ 1
-flag-low true = omega arith
-flag-low false = omega arith
-
 flag-set : (b : Bool) → (wordOfFlag b ≡ 0 → ⊥) → b ≡ true
 flag-set true h = refl
 flag-set false h = absurd (h refl)
-
-play-low : (p : Play) → wordOfPlay p ≤ 3
-play-low Started = omega arith
-play-low Stopped = omega arith
-play-low Stopping = omega arith
-play-low Paused = omega arith
-
-each-of-four : (P : ℕ → Type 0) → P 0 → P 1 → P 2 → P 3 → (k : ℕ) → k < 4 → P k
-each-of-four P a b c d zero h = a
-each-of-four P a b c d (suc zero) h = b
-each-of-four P a b c d (suc (suc zero)) h = c
-each-of-four P a b c d (suc (suc (suc zero))) h = d
-each-of-four P a b c d (suc (suc (suc (suc k)))) h = absurd (omega arith)
 
 each-of-six : (P : ℕ → Type 0) → P 0 → P 1 → P 2 → P 3 → P 4 → P 5 → (k : ℕ) → k < 6 → P k
 each-of-six P a b c d e f zero h = a
@@ -85,23 +67,20 @@ pub stored-whole : (n : ℕ) (v : Voice) → (v .«in_use» ≡ true → 1 ≤ v
 unfolding wordsOf floatsOf headOf wordsOfWave
 stored-whole n v some channels base index ids fraction =
     let words = wordsOf v in
-    let valid : (k : ℕ) → wordOfFlag (getD (v .valid) k false) ≤ 1 = λ k. flag-low (getD (v .valid) k false) in
-    let looping : (k : ℕ) → wordOfFlag (waveAt v k .looping) ≤ 1 = λ k. flag-low (waveAt v k .looping) in
-    let ends : (k : ℕ) → wordOfFlag (waveAt v k .«end_of_stream») ≤ 1 = λ k. flag-low (waveAt v k .«end_of_stream») in
-    let pending : (k : ℕ) → wordOfFlag (waveAt v k .pending) ≤ 1 = λ k. flag-low (waveAt v k .pending) in
+    let marks = marks-stored v in
     record {
-      used = flag-low (v .«in_use»);
-      fresh = flag-low (v .fresh);
-      play = play-low (v .play);
+      used = marks .used;
+      fresh = marks .fresh;
+      play = marks .play;
       channels = channels;
       some-channel = λ ne. some (flag-set (v .«in_use») ne);
       base-index = base;
       ids = each-of-six (λ k. getD words (12 + k) 0 < n)
           (ids 0 (omega arith)) (ids 1 (omega arith)) (ids 2 (omega arith)) (ids 3 (omega arith)) (ids 4 (omega arith)) (ids 5 (omega arith));
-      valid = each-of-four (λ k. getD words (18 + k) 0 ≤ 1) (valid 0) (valid 1) (valid 2) (valid 3);
+      valid = marks .valid;
       index = index;
-      looping = each-of-four (λ b. getD words (26 + b * 8 + 2) 0 ≤ 1) (looping 0) (looping 1) (looping 2) (looping 3);
-      end-of-stream = each-of-four (λ b. getD words (26 + b * 8 + 3) 0 ≤ 1) (ends 0) (ends 1) (ends 2) (ends 3);
-      pending = each-of-four (λ b. getD words (26 + b * 8 + 7) 0 ≤ 1) (pending 0) (pending 1) (pending 2) (pending 3);
+      looping = marks .looping;
+      end-of-stream = marks .end-of-stream;
+      pending = marks .pending;
       fraction = fraction;
     }
