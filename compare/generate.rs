@@ -198,28 +198,3 @@ pub fn state(r: &mut Random, len: u64) -> Slices {
     }
     s
 }
-
-/// What is compared of a state: every NaN as one, and nothing of a list beyond its length or of factors that are not given.
-pub fn seen(s: &Slices) -> (Vec<u32>, Vec<u64>, Vec<u32>, Vec<u16>, Vec<u32>) {
-    let all = |s: &[f32]| s.iter().map(|&x| crate::random::bits(x)).collect::<Vec<u32>>();
-    let (mut words, mut floats) = (s.words.clone(), all(&s.floats));
-    let p = &s.words[..10];
-    let (mixes, voices, sinks, splitters) = (p[3] as usize + 1, p[4] as usize, p[5] as usize, p[7] as usize);
-    let at = 10 + voices * 58 + mixes * 5;
-    let factors = voices * 52 + mixes * 577;
-    for k in 0..sinks {
-        let row = &mut words[at + k * 10..][..10];
-        for i in row[2] as usize..6 {
-            row[3 + i] = 0;
-        }
-        if row[9] == 0 {
-            floats[factors + k * 4..][..4].fill(0);
-        }
-    }
-    for k in 0..splitters {
-        let row = &mut words[at + sinks * 10 + k * 129..][..129];
-        let n = row[0] as usize;
-        row[1 + n..].fill(0);
-    }
-    (words, s.longs.clone(), floats, s.contexts.clone(), all(&s.history))
-}

@@ -2,14 +2,38 @@
 use crate::generate::{address, counter, flag, gain, mix_number, splitter_number};
 use crate::random::Random;
 
-fn put(d: &mut [u8], at: usize, bytes: &[u8]) {
+pub fn put(d: &mut [u8], at: usize, bytes: &[u8]) {
     if at + bytes.len() <= d.len() {
         d[at..at + bytes.len()].copy_from_slice(bytes);
     }
 }
 
-fn put_u32(d: &mut [u8], at: usize, v: u32) {
+pub fn put_u32(d: &mut [u8], at: usize, v: u32) {
     put(d, at, &v.to_le_bytes());
+}
+
+/// The sections of an update's input.
+#[derive(Default)]
+pub struct Sections {
+    pub behavior: Vec<u8>,
+    pub pools: Vec<u8>,
+    pub resources: Vec<u8>,
+    pub voices: Vec<u8>,
+    pub effects: Vec<u8>,
+    pub splitters: Vec<u8>,
+    pub mixes: Vec<u8>,
+    pub sinks: Vec<u8>,
+}
+
+impl Sections {
+    /// The input: a header, in which the sections' sizes are put, and the sections.
+    pub fn join(&self, mut header: Vec<u8>) -> Vec<u8> {
+        let sized = [(0x04, &self.behavior), (0x08, &self.pools), (0x10, &self.resources), (0x0c, &self.voices), (0x14, &self.effects)];
+        for (at, s) in sized.into_iter().chain([(0x18, &self.mixes), (0x1c, &self.sinks)]) {
+            put_u32(&mut header, at, s.len() as u32);
+        }
+        [&header, &self.behavior, &self.pools, &self.resources, &self.voices, &self.effects, &self.splitters, &self.mixes, &self.sinks].map(|s| &s[..]).concat()
+    }
 }
 
 /// A voice's record: in use most of the time, its offsets within its sizes half the time.
@@ -124,81 +148,78 @@ fn sink_record(r: &mut Random) -> Vec<u8> {
     d
 }
 
+/// Whether the mixes' section has a header and mix numbers, by the parameters' revision.
+pub fn dirty_mixes(p: &[u32]) -> bool {
+    (p[9] >> 24).wrapping_sub(0x30) >= 7
+}
+
 /// An update's input for these parameters, and what was done to it: 0 well-formed, 1 cut short, 2 damaged, 3 any bytes.
 pub fn input(r: &mut Random, p: &[u32], len: u64) -> (Vec<u8>, usize) {
     if r.below(16) == 0 {
         let n = [0, 3, 0x20, 0x40, 0x200, 0x1000][r.below(6) as usize];
         return (r.bytes(n), 3);
     }
-    let number = p[9] >> 24;
-    let dirty = p[9] == 0 || number.wrapping_sub(0x30) >= 7;
     let (mixes, voices, sinks, effects) = (u64::from(p[3]) + 1, p[4] as usize, p[5] as usize, p[6] as usize);
     let (splitters, destinations) = (u64::from(p[7]), u64::from(p[8]));
     let pools = p[6] as usize + voices * 4;
-    let mut sections: Vec<Vec<u8>> = Vec::new();
-    let size = r.below(3) as usize * 0x10;
-    sections.push(r.bytes(size));
     let some = |r: &mut Random, n: usize| if r.below(6) == 0 { r.below(n as u64 + 2) as usize } else { n };
+    let mut s = Sections::default();
+    let size = r.below(3) as usize * 0x10;
+    s.behavior = r.bytes(size);
     let n = some(r, pools);
-    let mut d = r.bytes(n * 0x20);
-    for k in 0..d.len() / 0x20 {
-        put_u32(&mut d, k * 0x20 + 0x10, r.below(7) as u32);
+    s.pools = r.bytes(n * 0x20);
+    for k in 0..n {
+        put_u32(&mut s.pools, k * 0x20 + 0x10, r.below(7) as u32);
     }
-    sections.push(d);
-    let mut d = Vec::new();
     for _ in 0..some(r, voices) {
         let mut e = r.bytes(0x70);
         for k in 0..24 {
             put(&mut e, 4 + k * 4, &gain(r).to_le_bytes());
         }
-        d.extend(e);
+        s.resources.extend(e);
     }
-    sections.push(d);
     let n = some(r, voices);
-    sections.push((0..n).flat_map(|_| voice_record(r, len, mixes, splitters)).collect());
+    s.voices = (0..n).flat_map(|_| voice_record(r, len, mixes, splitters)).collect();
     let size = [0, 1, 2, 3, 8, 0xc0][r.below(6) as usize] * effects + r.below(3) as usize;
-    sections.push((0..size).map(|_| r.below(3) as u8).collect());
-    let split = if r.below(6) == 0 { Vec::new() } else { splitter_section(r, splitters, destinations, mixes) };
-    let mut d = Vec::new();
+    s.effects = (0..size).map(|_| r.below(3) as u8).collect();
+    if r.below(6) != 0 {
+        s.splitters = splitter_section(r, splitters, destinations, mixes);
+    }
     let n = some(r, mixes as usize);
-    if dirty {
-        d = r.bytes(0x20);
-        put_u32(&mut d, 4, if r.below(10) == 0 { r.next() as u32 } else { n as u32 });
+    if dirty_mixes(p) {
+        s.mixes = r.bytes(0x20);
+        put_u32(&mut s.mixes, 4, if r.below(10) == 0 { r.next() as u32 } else { n as u32 });
     }
     for _ in 0..n {
-        d.extend(mix_record(r, mixes, splitters));
+        s.mixes.extend(mix_record(r, mixes, splitters));
     }
-    let mixes_section = d;
     let n = some(r, sinks);
-    let sinks_section: Vec<u8> = (0..n).flat_map(|_| sink_record(r)).collect();
-
-    let mut header = r.bytes(0x40);
-    let sizes = [(0x04, &sections[0]), (0x08, &sections[1]), (0x10, &sections[2]), (0x0c, &sections[3]), (0x14, &sections[4])];
-    for (at, s) in sizes {
-        put_u32(&mut header, at, s.len() as u32);
-    }
-    put_u32(&mut header, 0x18, mixes_section.len() as u32);
-    put_u32(&mut header, 0x1c, sinks_section.len() as u32);
-    let mut d = header;
-    for s in &sections {
-        d.extend(s);
-    }
-    d.extend(split);
-    d.extend(mixes_section);
-    d.extend(sinks_section);
-    match r.below(5) {
+    s.sinks = (0..n).flat_map(|_| sink_record(r)).collect();
+    let mut d = s.join(r.bytes(0x40));
+    let kind = match r.below(5) {
         0 => {
-            let n = if r.below(2) == 0 { r.below(d.len() as u64 + 1) } else { d.len() as u64 - r.below(d.len().min(0x200) as u64 + 1) };
-            d.truncate(n as usize);
-            (d, 1)
+            cut(r, &mut d);
+            1
         }
         1 => {
-            for _ in 0..=r.below(6) {
-                let at = if r.below(2) == 0 { r.below(d.len().min(0x40) as u64) } else { r.below(d.len() as u64) };
-                d[at as usize] = r.next() as u8;
-            }
-            (d, 2)
+            damage(r, &mut d);
+            2
         }
-        _ => (d, 0),
+        _ => 0,
+    };
+    (d, kind)
+}
+
+/// Cuts an input short, half the time near its end.
+pub fn cut(r: &mut Random, d: &mut Vec<u8>) {
+    let n = if r.below(2) == 0 { r.below(d.len() as u64 + 1) } else { d.len() as u64 - r.below(d.len().min(0x200) as u64 + 1) };
+    d.truncate(n as usize);
+}
+
+/// Changes some bytes of an input, half of them in its header.
+pub fn damage(r: &mut Random, d: &mut [u8]) {
+    for _ in 0..=r.below(6) {
+        let at = if r.below(2) == 0 { r.below(d.len().min(0x40) as u64) } else { r.below(d.len() as u64) };
+        d[at as usize] = r.next() as u8;
     }
 }

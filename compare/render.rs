@@ -2,33 +2,22 @@
 //!
 //! `render [SEED [COUNT]]` compares COUNT renders of random desks, some of them several in a row on one state.
 mod generate;
+#[allow(dead_code)]
+mod port;
 mod random;
-use generate::{BASE, seen, state};
+use generate::{BASE, state};
 use oracle::mixer::probe::Slices;
 use oracle::renderer::Probe;
 use oracle::{Memory, take_rounds};
-use random::{Random, bits};
+use port::{all, place, places, seen};
+use random::Random;
 
-unsafe extern "C" {
-    fn probe_render(
-        words: *mut u32, words_len: usize, longs: *mut u64, longs_len: usize, floats: *mut f32, floats_len: usize, contexts: *mut u16,
-        contexts_len: usize, history: *mut f32, history_len: usize, base: u64, memory: *const u8, memory_len: usize, frames: *mut f32,
-        frames_len: usize,
-    ) -> u64;
-}
-
-/// The port's render: its rounds, or 2^32 and a refusal's number; the state after it and the frame slice, filled with 0.25 before.
-fn port(before: &Slices, base: u64, memory: &[u8], room: usize) -> (u64, Slices, Vec<f32>) {
+/// The port's render: its number and rounds, the state after it and the frame slice, filled with 0.25 before.
+fn rendered(before: &Slices, base: u64, memory: &[u8], room: usize) -> (u32, u64, Slices, Vec<f32>) {
     let mut s = before.clone();
     let mut frames = vec![0.25; room];
-    let rounds = unsafe {
-        probe_render(
-            s.words.as_mut_ptr(), s.words.len(), s.longs.as_mut_ptr(), s.longs.len(), s.floats.as_mut_ptr(), s.floats.len(),
-            s.contexts.as_mut_ptr(), s.contexts.len(), s.history.as_mut_ptr(), s.history.len(), base, memory.as_ptr(), memory.len(),
-            frames.as_mut_ptr(), frames.len(),
-        )
-    };
-    (rounds, s, frames)
+    let answer = port::render(&mut s, base, memory, &mut frames);
+    (answer.number, u64::from(answer.rounds), s, frames)
 }
 
 /// More of a random state is heard: voices in use and started, with wave buffers queued; mixes in use; room for most mix buffers; a device sink that
@@ -93,9 +82,9 @@ fn main() {
             let spent = take_rounds();
             let after = oracle.slices();
             let room = frames.len() + r.below(6) as usize;
-            let (given, slices, out) = port(&before, BASE, &memory, room);
-            let all = |s: &[f32]| s.iter().map(|&x| bits(x)).collect::<Vec<u32>>();
-            let same = given == spent && all(&out[..frames.len()]) == all(&frames) && out[frames.len()..].iter().all(|&x| x == 0.25) && seen(&slices) == seen(&after);
+            let (number, given, slices, out) = rendered(&before, BASE, &memory, room);
+            let heard = all(&out[..frames.len()]) == all(&frames) && out[frames.len()..].iter().all(|&x| x == 0.25);
+            let same = number == 0 && given == spent && heard && seen(&slices) == seen(&after);
             compared += 1;
             rounds += spent;
             sounding += u64::from(frames.iter().any(|&x| x != 0.0));
@@ -105,22 +94,17 @@ fn main() {
                 differ += 1;
                 if differ < 6 {
                     println!("differs: parameters {:x?}: rounds {given} against {spent}", &before.words[..10]);
-                    println!("  frames {:?}", all(&out).iter().zip(&all(&frames)).position(|(x, y)| x != y));
-                    let (a, b) = (seen(&slices), seen(&after));
-                    println!("  words {:?}", a.0.iter().zip(&b.0).position(|(x, y)| x != y));
-                    println!("  longs {:?}", a.1.iter().zip(&b.1).position(|(x, y)| x != y));
-                    println!("  floats {:?}", a.2.iter().zip(&b.2).position(|(x, y)| x != y));
-                    println!("  contexts {}, history {}", a.3 == b.3, a.4 == b.4);
+                    println!("  frames {:?}, {}", place(&all(&out[..frames.len()]), &all(&frames)), places(&slices, &after));
                 }
             }
             // Memory that reaches past 2^63 is refused by 5, and one float too few for the frames by 7; nothing changes.
             if r.below(32) == 0 {
                 for (base, room, refusal) in [((1 << 63) - size + 1, room, 5), (BASE, frames.len() - 1, 7)] {
-                    let (given, slices, out) = port(&before, base, &memory, room);
+                    let (number, given, slices, out) = rendered(&before, base, &memory, room);
                     compared += 1;
-                    if given != (1 << 32) + refusal || seen(&slices) != seen(&before) || out.iter().any(|&x| x != 0.25) {
+                    if (number, given) != (refusal, 0) || seen(&slices) != seen(&before) || out.iter().any(|&x| x != 0.25) {
                         differ += 1;
-                        println!("differs: refusal {refusal} is {given}");
+                        println!("differs: refusal {refusal} is {number}");
                     }
                 }
             }

@@ -4,33 +4,22 @@
 //! `update lengths` compares 40 well-formed inputs cut short at every length.
 mod generate;
 mod inputs;
+#[allow(dead_code)]
+mod port;
 mod random;
-use generate::{seen, state};
+use generate::state;
 use inputs::input;
 use oracle::mixer::probe::Slices;
 use oracle::renderer::Probe;
+use port::{place, places, seen};
 use random::Random;
 
-unsafe extern "C" {
-    fn probe_update(
-        words: *mut u32, words_len: usize, longs: *mut u64, longs_len: usize, floats: *mut f32, floats_len: usize, contexts: *mut u16,
-        contexts_len: usize, history: *mut f32, history_len: usize, expected: u32, input: *const u8, input_len: usize, reply: *mut u8,
-        reply_len: usize,
-    ) -> u32;
-}
-
 /// The port's update: its answer's number, the state after it and the reply slice, filled with 0xa5 before.
-fn port(before: &Slices, input: &[u8], expected: u32, room: usize) -> (u32, Slices, Vec<u8>) {
+fn updated(before: &Slices, input: &[u8], expected: u32, room: usize) -> (u32, Slices, Vec<u8>) {
     let mut s = before.clone();
     let mut reply = vec![0xa5; room];
-    let number = unsafe {
-        probe_update(
-            s.words.as_mut_ptr(), s.words.len(), s.longs.as_mut_ptr(), s.longs.len(), s.floats.as_mut_ptr(), s.floats.len(),
-            s.contexts.as_mut_ptr(), s.contexts.len(), s.history.as_mut_ptr(), s.history.len(), expected, input.as_ptr(), input.len(),
-            reply.as_mut_ptr(), reply.len(),
-        )
-    };
-    (number, s, reply)
+    let updated = port::update(&mut s, expected, input, &mut reply);
+    (updated.number, s, reply)
 }
 
 /// Inputs cut short at every length from 0 on, each on a state of its own.
@@ -47,7 +36,7 @@ fn lengths(inputs: u64) -> bool {
         for n in 0..=bytes.len() {
             let oracle = Probe::restore(&before);
             let reply = oracle.update(&bytes[..n], 0x2000);
-            let (answer, slices, out) = port(&before, &bytes[..n], 0x2000, reply.len());
+            let (answer, slices, out) = updated(&before, &bytes[..n], 0x2000, reply.len());
             compared += 1;
             differ += u64::from(answer != 0 || out != reply || seen(&slices) != seen(&oracle.slices()));
         }
@@ -80,7 +69,7 @@ fn main() {
             let reply = oracle.update(&bytes, expected as usize);
             let after = oracle.slices();
             let room = reply.len() + r.below(20) as usize;
-            let (answer, slices, out) = port(&before, &bytes, expected, room);
+            let (answer, slices, out) = updated(&before, &bytes, expected, room);
             let same = answer == 0 && out[..reply.len()] == reply[..] && out[reply.len()..].iter().all(|&b| b == 0xa5) && seen(&slices) == seen(&after);
             compared += 1;
             kinds[kind] += 1;
@@ -92,18 +81,13 @@ fn main() {
                 differ += 1;
                 if differ < 6 {
                     println!("differs: turn {k}, kind {kind}, answer {answer}, parameters {:x?}, expected {expected}", &before.words[..10]);
-                    let place = |a: &[u8], b: &[u8]| a.iter().zip(b).position(|(x, y)| x != y);
-                    println!("  reply {} bytes, first difference at {:?}", reply.len(), place(&out, &reply));
-                    let (a, b) = (seen(&slices), seen(&after));
-                    println!("  words {:?}", a.0.iter().zip(&b.0).position(|(x, y)| x != y));
-                    println!("  longs {:?}", a.1.iter().zip(&b.1).position(|(x, y)| x != y));
-                    println!("  floats {:?}", a.2.iter().zip(&b.2).position(|(x, y)| x != y));
-                    println!("  contexts {}, history {}", a.3 == b.3, a.4 == b.4);
+                    println!("  reply {} bytes, first difference at {:?}", reply.len(), place(&out[..reply.len()], &reply));
+                    println!("  {}", places(&slices, &after));
                 }
             }
             // One byte too few for the reply is refused by 6, and nothing changes.
             if r.below(16) == 0 {
-                let (answer, slices, out) = port(&before, &bytes, expected, reply.len() - 1);
+                let (answer, slices, out) = updated(&before, &bytes, expected, reply.len() - 1);
                 compared += 1;
                 if answer != 6 || seen(&slices) != seen(&before) || out.iter().any(|&b| b != 0xa5) {
                     differ += 1;

@@ -2,6 +2,7 @@
 pub mod dsp;
 pub mod mixer;
 pub mod renderer;
+pub mod session;
 
 use std::cell::Cell;
 

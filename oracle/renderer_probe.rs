@@ -8,10 +8,21 @@ pub struct Renderer {
     state: Mutex<mixer::State>,
 }
 
+/// The parameters as the first ten words of the state.
+fn words(p: &Params) -> Vec<u32> {
+    let counts = [p.sample_rate, p.sample_count, p.mix_buffers, p.sub_mixes, p.voices, p.sinks, p.effects];
+    [&counts[..], &[p.splitters, p.splitter_destinations, p.revision]].concat()
+}
+
 /// A renderer whose whole state can be read and written by the rows of the port.
 pub struct Probe(Renderer);
 
 impl Probe {
+    /// The ten parameters in these bytes.
+    pub fn parameters(bytes: &[u8]) -> Vec<u32> {
+        words(&Params::parse(bytes))
+    }
+
     /// What opening with these parameter bytes makes.
     pub fn open(parameters: &[u8]) -> Probe {
         let params = Params::parse(parameters);
@@ -39,29 +50,27 @@ impl Probe {
     }
 
     pub fn slices(&self) -> mixer::probe::Slices {
-        let p = &self.0.params;
-        let words = vec![
-            p.sample_rate,
-            p.sample_count,
-            p.mix_buffers,
-            p.sub_mixes,
-            p.voices,
-            p.sinks,
-            p.effects,
-            p.splitters,
-            p.splitter_destinations,
-            p.revision,
-        ];
-        mixer::probe::dump(&self.0.state.lock().unwrap(), words)
+        mixer::probe::dump(&self.0.state.lock().unwrap(), words(&self.0.params))
     }
 
     pub fn update(&self, input: &[u8], expected: usize) -> Vec<u8> {
         self.0.update(input, expected)
     }
 
+    /// The length of the reply to an update with this expected size, as `update` makes it.
+    pub fn reply_length(&self, expected: usize) -> usize {
+        let (fixed, effects) = (self.0.params.fixed_output_size(), self.0.params.effects as usize);
+        fixed + if effects > 0 { expected.saturating_sub(fixed) / effects * effects } else { 0 }
+    }
+
     pub fn render(&self, mem: &dyn mixer::Mem) -> Vec<[f32; 2]> {
         let mut out = Vec::new();
-        self.0.state.lock().unwrap().render(mem, &mut out);
+        self.render_into(mem, &mut out);
         out
+    }
+
+    /// A render into what an earlier one left, as kirikae's thread does it.
+    pub fn render_into(&self, mem: &dyn mixer::Mem, out: &mut Vec<[f32; 2]>) {
+        self.0.state.lock().unwrap().render(mem, out);
     }
 }

@@ -1,5 +1,6 @@
 pub mod Sessions
 pub mod Declared
+pub mod Refused
 pub mod Demand
 pub mod Both
 pub mod Updates

@@ -1,0 +1,211 @@
+//! Sessions by seed, in modes.
+use crate::generate::{BASE, parameters};
+use crate::inputs::{Sections, cut, damage, input};
+use crate::random::Random;
+use crate::refusals::{refused, refused_opens};
+use crate::title::Title;
+
+pub const MODES: [&str; 7] = ["played", "routes", "damaged", "random", "refused", "limits", "small"];
+
+/// A call. `spare` is how much longer, or shorter, the reply or frame slice is than what the call gives.
+#[derive(Clone)]
+pub enum Call {
+    Update { expected: u32, input: Vec<u8>, spare: i64 },
+    Render { base: u64, memory: Vec<u8>, spare: i64 },
+}
+
+/// An open: the parameter bytes, and which state slice is how much too long or too short.
+#[derive(Clone)]
+pub struct Open {
+    pub parameters: Vec<u8>,
+    pub off: [i64; 5],
+}
+
+/// Opens, of which the first that succeeds begins the session, and the calls after it.
+#[derive(Clone)]
+pub struct Session {
+    pub opens: Vec<Open>,
+    pub calls: Vec<Call>,
+}
+
+/// The parameters' bytes; what `Params` does not read is filled with anything.
+pub fn parameter_bytes(r: &mut Random, p: &[u32]) -> Vec<u8> {
+    let mut d = r.bytes(0x34);
+    for (at, v) in [0x00, 0x04, 0x08, 0x0c, 0x10, 0x14, 0x18, 0x24, 0x28, 0x30].into_iter().zip(p) {
+        d[at..at + 4].copy_from_slice(&v.to_le_bytes());
+    }
+    d
+}
+
+/// Parameters of a title that is heard: voices, a sink, room for its mixes.
+fn heard(r: &mut Random) -> Vec<u32> {
+    let mut p = parameters(r);
+    p[0] = [48000, 48000, 32000][r.below(3) as usize];
+    p[1] = [240, 160, 64, 32, 5, 256, 1][r.below(7) as usize];
+    p[2] = p[2].max(6 + r.below(20) as u32);
+    p[3] = p[3].min(8);
+    p[4] = p[4].clamp(1, 8);
+    p[5] = p[5].max(1);
+    p
+}
+
+fn most(r: &mut Random) -> Vec<u32> {
+    let mut p = parameters(r);
+    p[..9].copy_from_slice(&[48000, 256, 96, 31, 64, 8, 64, 32, 128]);
+    p
+}
+
+/// Parameters within question 10's limits.
+fn small(r: &mut Random) -> Vec<u32> {
+    let mut p = heard(r);
+    for (k, most) in [(1, 64), (2, 12), (3, 3), (4, 4), (7, 8), (8, 8)] {
+        p[k] = p[k].min(most);
+    }
+    p
+}
+
+/// The expected size: mostly what titles ask for, with 16 bytes for each effect.
+fn expected(r: &mut Random, p: &[u32]) -> u32 {
+    match r.below(8) {
+        0 => r.below(0x400) as u32,
+        1 => r.below(0x4000) as u32,
+        _ => 0x40 + (p[6] + p[4] * 4) * 0x10 + p[4] * 0x10 + p[5] * 0x20 + 0xd0 + p[6] * 0x10,
+    }
+}
+
+/// A title's calls: a few renders after each update.
+fn played(r: &mut Random, p: Vec<u32>, rewired: bool) -> Vec<Call> {
+    let mut title = Title::new(r, p);
+    let mut calls = Vec::new();
+    let count = 2 + r.below(29) as usize;
+    while calls.len() < count {
+        title.turn(r);
+        if rewired && !calls.is_empty() {
+            title.rewire(r);
+        }
+        calls.push(Call::Update { expected: expected(r, &title.p), input: title.input(r), spare: r.below(3) as i64 });
+        for _ in 0..r.below(4) {
+            if r.below(3) == 0 {
+                title.stream(r);
+            }
+            calls.push(Call::Render { base: BASE, memory: title.memory.clone(), spare: r.below(3) as i64 });
+        }
+    }
+    calls.truncate(count);
+    calls
+}
+
+/// Some of the inputs are changed or cut short, some of the memories cut short or lent elsewhere.
+fn damaged(r: &mut Random, calls: &mut [Call]) {
+    for call in calls {
+        match call {
+            Call::Update { input, .. } => match r.below(8) {
+                0 => cut(r, input),
+                1 => damage(r, input),
+                2 | 3 => {
+                    // Not in the header, so that all sections stand where they stood.
+                    for _ in 0..r.below(12) {
+                        damage(r, &mut input[0x40..]);
+                    }
+                }
+                _ => {}
+            },
+            Call::Render { base, memory, .. } => match r.below(6) {
+                0 => memory.truncate(r.below(memory.len() as u64 + 1) as usize),
+                1 => damage(r, memory),
+                2 => *base = [0, BASE - 8, BASE + 0x200, (1 << 63) - memory.len() as u64][r.below(4) as usize],
+                _ => {}
+            },
+        }
+    }
+}
+
+/// Any bytes: an input of nothing else, one whose header gives sizes that fit, or one of those for the updates' driver.
+fn anything(r: &mut Random, p: &[u32]) -> Vec<Call> {
+    let (count, size) = (2 + r.below(29), [0, 400, 2000, 2000][r.below(4) as usize]);
+    (0..count)
+        .map(|_| {
+            if r.below(2) == 0 {
+                return Call::Render { base: if r.below(8) == 0 { r.next() >> 1 } else { BASE }, memory: r.bytes(size), spare: r.below(3) as i64 };
+            }
+            let input = match r.below(8) {
+                0 => r.bytes(size),
+                1 => {
+                    let mut any = |each: usize, n: u32| {
+                        let n = each * n as usize + r.below(3) as usize;
+                        r.bytes(n)
+                    };
+                    let (pools, resources, voices) = (any(0x20, p[6] + p[4] * 4), any(0x70, p[4]), any(0x170, p[4]));
+                    let (effects, splitters, mixes, sinks) = (any(8, p[6]), any(0x10, 4), any(0x930, p[3] + 1), any(0x140, p[5]));
+                    Sections { behavior: vec![], pools, resources, voices, effects, splitters, mixes, sinks }.join(r.bytes(0x40))
+                }
+                _ => input(r, p, size as u64).0,
+            };
+            // The whole range of expected sizes, within what a driver can lend.
+            let expected = if p[6] == 0 { r.next() as u32 } else { r.below(0x8000) as u32 };
+            Call::Update { expected, input, spare: r.below(3) as i64 }
+        })
+        .collect()
+}
+
+pub fn session(r: &mut Random, mode: &str) -> Session {
+    let p = match mode {
+        "limits" => most(r),
+        "small" => small(r),
+        "random" if r.below(2) == 0 => parameters(r),
+        _ => heard(r),
+    };
+    let mut opens = Vec::new();
+    let calls = match mode {
+        "random" => {
+            let mut p = p.clone();
+            if r.below(4) == 0 {
+                p[0] = r.next() as u32;
+                p[9] = r.next() as u32;
+            }
+            opens.push(Open { parameters: parameter_bytes(r, &p), off: [0; 5] });
+            anything(r, &p)
+        }
+        "refused" => {
+            opens = refused_opens(r, &p);
+            let calls = played(r, p.clone(), false);
+            refused(r, calls)
+        }
+        "damaged" => {
+            let mut calls = played(r, p.clone(), true);
+            damaged(r, &mut calls);
+            calls
+        }
+        "limits" => {
+            let rewired = r.below(2) == 0;
+            played(r, p.clone(), rewired)
+        }
+        _ => played(r, p.clone(), mode == "routes"),
+    };
+    opens.push(Open { parameters: parameter_bytes(r, &p), off: [0; 5] });
+    Session { opens, calls }
+}
+
+/// A session as the session program's input, with the first render's memory, and as many of its calls as 65,536 bytes hold. Every other one is damaged.
+pub fn program(r: &mut Random, damaged: bool) -> Vec<u8> {
+    let Session { opens, mut calls } = session(r, "small");
+    let memory = calls.iter().find_map(|c| if let Call::Render { memory, .. } = c { Some(memory.clone()) } else { None }).unwrap_or_default();
+    let block = |d: &[u8]| [&(d.len() as u32).to_le_bytes()[..], d].concat();
+    loop {
+        let coded = calls.iter().flat_map(|c| match c {
+            Call::Update { expected, input, .. } => [&[0][..], &expected.to_le_bytes(), &block(input)].concat(),
+            Call::Render { .. } => vec![1],
+        });
+        let mut d = [block(&opens[0].parameters), block(&memory), (calls.len() as u32).to_le_bytes().to_vec(), coded.collect()].concat();
+        if d.len() <= 65_536 {
+            match r.below(3) {
+                _ if !damaged => {}
+                0 => cut(r, &mut d),
+                1 => damage(r, &mut d),
+                _ => d.extend(r.bytes(1)),
+            }
+            return d;
+        }
+        calls.pop();
+    }
+}

@@ -1,0 +1,120 @@
+//! The port's calls as the drivers make them, on slices that the driver owns.
+use crate::random::bits;
+use oracle::mixer::probe::Slices;
+
+#[derive(Clone, Copy, Debug, PartialEq)]
+#[repr(C)]
+pub struct Lengths {
+    pub number: u32,
+    pub words: usize,
+    pub longs: usize,
+    pub floats: usize,
+    pub contexts: usize,
+    pub history: usize,
+}
+
+#[derive(Clone, Copy, Debug, PartialEq)]
+#[repr(C)]
+pub struct Updated {
+    pub number: u32,
+    pub size: usize,
+}
+
+#[derive(Clone, Copy, Debug, PartialEq)]
+#[repr(C)]
+pub struct Rendered {
+    pub number: u32,
+    pub rounds: u32,
+}
+
+unsafe extern "C" {
+    fn jeqlluna_lengths(parameters: *const u8, parameters_len: usize) -> Lengths;
+    fn jeqlluna_open(
+        parameters: *const u8, parameters_len: usize, words: *mut u32, words_len: usize, longs: *mut u64, longs_len: usize, floats: *mut f32,
+        floats_len: usize, contexts: *mut u16, contexts_len: usize, history: *mut f32, history_len: usize,
+    ) -> u32;
+    fn jeqlluna_update(
+        words: *mut u32, words_len: usize, longs: *mut u64, longs_len: usize, floats: *mut f32, floats_len: usize, contexts: *mut u16,
+        contexts_len: usize, history: *mut f32, history_len: usize, expected: u32, input: *const u8, input_len: usize, reply: *mut u8,
+        reply_len: usize,
+    ) -> Updated;
+    fn jeqlluna_render(
+        words: *mut u32, words_len: usize, longs: *mut u64, longs_len: usize, floats: *mut f32, floats_len: usize, contexts: *mut u16,
+        contexts_len: usize, history: *mut f32, history_len: usize, base: u64, memory: *const u8, memory_len: usize, frames: *mut f32,
+        frames_len: usize,
+    ) -> Rendered;
+}
+
+pub fn lengths(parameters: &[u8]) -> Lengths {
+    unsafe { jeqlluna_lengths(parameters.as_ptr(), parameters.len()) }
+}
+
+pub fn open(parameters: &[u8], s: &mut Slices) -> u32 {
+    unsafe {
+        jeqlluna_open(
+            parameters.as_ptr(), parameters.len(), s.words.as_mut_ptr(), s.words.len(), s.longs.as_mut_ptr(), s.longs.len(), s.floats.as_mut_ptr(),
+            s.floats.len(), s.contexts.as_mut_ptr(), s.contexts.len(), s.history.as_mut_ptr(), s.history.len(),
+        )
+    }
+}
+
+pub fn update(s: &mut Slices, expected: u32, input: &[u8], reply: &mut [u8]) -> Updated {
+    unsafe {
+        jeqlluna_update(
+            s.words.as_mut_ptr(), s.words.len(), s.longs.as_mut_ptr(), s.longs.len(), s.floats.as_mut_ptr(), s.floats.len(),
+            s.contexts.as_mut_ptr(), s.contexts.len(), s.history.as_mut_ptr(), s.history.len(), expected, input.as_ptr(), input.len(),
+            reply.as_mut_ptr(), reply.len(),
+        )
+    }
+}
+
+pub fn render(s: &mut Slices, base: u64, memory: &[u8], frames: &mut [f32]) -> Rendered {
+    unsafe {
+        jeqlluna_render(
+            s.words.as_mut_ptr(), s.words.len(), s.longs.as_mut_ptr(), s.longs.len(), s.floats.as_mut_ptr(), s.floats.len(),
+            s.contexts.as_mut_ptr(), s.contexts.len(), s.history.as_mut_ptr(), s.history.len(), base, memory.as_ptr(), memory.len(),
+            frames.as_mut_ptr(), frames.len(),
+        )
+    }
+}
+
+/// What is compared of a state: every NaN as one, and nothing of a list beyond its length or of factors that are not given.
+pub fn seen(s: &Slices) -> (Vec<u32>, Vec<u64>, Vec<u32>, Vec<u16>, Vec<u32>) {
+    let (mut words, mut floats) = (s.words.clone(), all(&s.floats));
+    let p = &s.words[..10];
+    let (mixes, voices, sinks, splitters) = (p[3] as usize + 1, p[4] as usize, p[5] as usize, p[7] as usize);
+    let at = 10 + voices * 58 + mixes * 5;
+    let factors = voices * 52 + mixes * 577;
+    for k in 0..sinks {
+        let row = &mut words[at + k * 10..][..10];
+        for i in row[2] as usize..6 {
+            row[3 + i] = 0;
+        }
+        if row[9] == 0 {
+            floats[factors + k * 4..][..4].fill(0);
+        }
+    }
+    for k in 0..splitters {
+        let row = &mut words[at + sinks * 10 + k * 129..][..129];
+        let n = row[0] as usize;
+        row[1 + n..].fill(0);
+    }
+    (words, s.longs.clone(), floats, s.contexts.clone(), all(&s.history))
+}
+
+/// The bits of floats, with every NaN counted as one.
+pub fn all(s: &[f32]) -> Vec<u32> {
+    s.iter().map(|&x| bits(x)).collect()
+}
+
+/// The first place at which two slices differ.
+pub fn place<T: PartialEq>(a: &[T], b: &[T]) -> Option<usize> {
+    if a.len() != b.len() { Some(a.len().min(b.len())) } else { a.iter().zip(b).position(|(x, y)| x != y) }
+}
+
+/// The first places at which two states differ, by slice.
+pub fn places(a: &Slices, b: &Slices) -> String {
+    let (a, b) = (seen(a), seen(b));
+    let (words, longs, floats) = (place(&a.0, &b.0), place(&a.1, &b.1), place(&a.2, &b.2));
+    format!("words {words:?}, longs {longs:?}, floats {floats:?}, contexts {:?}, history {:?}", place(&a.3, &b.3), place(&a.4, &b.4))
+}

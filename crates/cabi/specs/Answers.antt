@@ -1,0 +1,17 @@
+-- The answers of the calls as structs of numbers. Definitions only.
+use Rattle.calls.specs.Calls.{LengthsOutcome}
+use Rattle.renderer.specs.declared.answers.UpdateAnswer.{UpdateAnswer}
+use Rattle.renderer.specs.declared.answers.RenderAnswer.{RenderAnswer}
+use Rattle.renderer.specs.Answers.{updateNumber, updateSize, renderNumber, renderRounds}
+use Rattle.cabi.specs.declared.answers.JeqllunaLengths.{JeqllunaLengths}
+use Rattle.cabi.specs.declared.answers.JeqllunaUpdate.{JeqllunaUpdate}
+use Rattle.cabi.specs.declared.answers.JeqllunaRender.{JeqllunaRender}
+
+abbrev pub lengthsLeft : JeqllunaLengths → LengthsOutcome
+lengthsLeft r = record { number = r .number; words = r .words; longs = r .longs; floats = r .floats; contexts = r .contexts; history = r .history }
+
+abbrev pub updateTold : UpdateAnswer → JeqllunaUpdate
+updateTold a = record { number = updateNumber a; size = updateSize a }
+
+abbrev pub renderTold : RenderAnswer → JeqllunaRender
+renderTold a = record { number = renderNumber a; rounds = renderRounds a }

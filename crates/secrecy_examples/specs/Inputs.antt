@@ -1,0 +1,177 @@
+-- What the sessions that are computed consist of: one voice, one mix, one sink that plays it, two samples a render. Definitions only.
+use mathlib.Core.Bool.{false}
+use mathlib.Core.List.{List, [], _∷_, _++_}
+use Prim.Native.Nat.{ℕ, _+_, _-_, _*_, _^_}
+use lib.Ieee.{Float, fin}
+use lib.IntN.{negsuc}
+use lib.ListN.{replicate}
+use Rattle.floats.specs.Defs.{zero32}
+use Rattle.fields.specs.Fields.{bytesOf}
+use Rattle.params.specs.declared.params.Params.{Params}
+use Rattle.state.specs.State.{State, stateOf}
+use Rattle.secrecy.specs.Sessions.{Call, update, render}
+use Rattle.secrecy.specs.Demand.{begun}
+
+-- ---- bytes by their fields
+
+pub record Field : Type 0 where
+  pub at : ℕ
+  pub wide : ℕ
+  pub value : ℕ
+
+abbrev pub byte : ℕ → ℕ → Field
+byte at value = record { at = at; wide = 1; value = value }
+
+abbrev pub word : ℕ → ℕ → Field
+word at value = record { at = at; wide = 4; value = value }
+
+abbrev pub long : ℕ → ℕ → Field
+long at value = record { at = at; wide = 8; value = value }
+
+-- the bytes from `from` to `size`: fields in rising order, and zeros between them
+unfoldable pub laidFrom : ℕ → ℕ → List Field → List ℕ
+unfolding bytesOf
+laidFrom from size [] = replicate (size - from) 0
+laidFrom from size (f ∷ fs) = replicate (f .at - from) 0 ++ (bytesOf (f .wide) (f .value) ++ laidFrom (f .at + f .wide) size fs)
+
+-- the float 1
+abbrev pub oneBits : ℕ
+oneBits = 0x3f800000
+
+-- ---- a voice's record
+
+-- "no mix" and "no splitter"
+abbrev pub noMix : ℕ
+noMix = 0x7fffffff
+
+abbrev pub noSplitter : ℕ
+noSplitter = 0xffffffff
+
+-- marks in use and new, format, data source, mix, splitter and wave records; one channel at 48 kHz, pitch and volume 1, one buffer queued
+abbrev pub voice : ℕ → ℕ → ℕ → ℕ → ℕ → ℕ → List Field → List Field
+voice used new format source mix splitter waves =
+    byte 0x08 new ∷ byte 0x09 used ∷ byte 0x0b format ∷ word 0x0c 48000 ∷ word 0x18 1 ∷ word 0x1c oneBits ∷ word 0x20 oneBits ∷ word 0x3c 1
+    ∷ long 0x48 source ∷ word 0x58 mix ∷ word 0x5c splitter ∷ waves
+
+-- in use and new, of 16-bit PCM; the same not in use; and the same not new
+abbrev pub newVoice : ℕ → ℕ → ℕ → List Field → List Field
+newVoice source mix splitter waves = voice 1 1 2 source mix splitter waves
+
+abbrev pub unusedVoice : ℕ → ℕ → ℕ → List Field → List Field
+unusedVoice source mix splitter waves = voice 0 1 2 source mix splitter waves
+
+abbrev pub oldVoice : ℕ → ℕ → ℕ → List Field → List Field
+oldVoice source mix splitter waves = voice 1 0 2 source mix splitter waves
+
+-- in use and new, of ADPCM
+abbrev pub newAdpcm : ℕ → ℕ → ℕ → List Field → List Field
+newAdpcm source mix splitter waves = voice 1 1 6 source mix splitter waves
+
+-- wave record b: address, size in bytes, end in samples, context
+abbrev pub wave : ℕ → ℕ → ℕ → ℕ → ℕ → List Field
+wave b addr size end context =
+    let o = 0x60 + b * 0x38 in
+    long o addr ∷ long (o + 0x08) size ∷ word (o + 0x14) end ∷ long (o + 0x20) context ∷ []
+
+-- four that were sent before
+abbrev pub sentBefore : List Field
+sentBefore = byte 0x7a 1 ∷ byte 0xb2 1 ∷ byte 0xea 1 ∷ byte 0x122 1 ∷ []
+
+-- ---- inputs of updates
+
+-- a voice's record alone
+unfoldable pub voiceInput : List Field → List ℕ
+unfolding laidFrom
+voiceInput fields = laidFrom 0 0x40 (word 0x0c 0x170 ∷ []) ++ laidFrom 0 0x170 fields
+
+-- the desk: a channel resource whose gain is 1; a mix in use, volume 1, one buffer; a device in use, with that buffer as its one input
+unfoldable pub deskInput : List ℕ
+unfolding laidFrom
+deskInput =
+    laidFrom 0 0x40 (word 0x10 0x70 ∷ word 0x18 0x930 ∷ word 0x1c 0x140 ∷ [])
+    ++ (laidFrom 0 0x70 (word 0x04 oneBits ∷ [])
+    ++ (laidFrom 0 0x930 (word 0x00 oneBits ∷ word 0x08 1 ∷ byte 0x0c 1 ∷ word 0x924 noMix ∷ word 0x928 noSplitter ∷ [])
+    ++ laidFrom 0 0x140 (byte 0x00 1 ∷ byte 0x01 1 ∷ word 0x120 1 ∷ [])))
+
+-- ---- a session
+
+-- the revision's word: "REV" and a digit
+abbrev pub revision : ℕ → ℕ
+revision n = 0x30564552 + n * 2 ^ 24
+
+abbrev pub params : ℕ → Params
+params word = record {
+  «sample_rate» = 48000;
+  «sample_count» = 2;
+  «mix_buffers» = 1;
+  «sub_mixes» = 0;
+  voices = 1;
+  sinks = 1;
+  effects = 0;
+  splitters = 0;
+  «splitter_destinations» = 0;
+  revision = word;
+}
+
+-- the slices that it is opened on, whatever they held
+unfoldable pub slices : State
+slices = stateOf (replicate 83 7) (replicate 15 7) (replicate 633 zero32) (replicate 3 7) (replicate 18 zero32)
+
+-- the state that its open makes, of a revision's word
+unfoldable pub start : ℕ → State
+unfolding slices
+start word = begun (params word) slices
+
+-- the updates; a reply is 0x170 bytes, and 0x180 from revision 5
+unfoldable pub desk : Call
+unfolding deskInput
+desk = update 0 deskInput (replicate 0x180 0)
+
+unfoldable pub updating : List Field → Call
+unfolding voiceInput
+updating fields = update 0 (voiceInput fields) (replicate 0x180 0)
+
+-- one that is refused by 6: the reply slice is a byte too short
+unfoldable pub refused : List Field → Call
+unfolding voiceInput
+refused fields = update 0 (voiceInput fields) (replicate 0x16f 0)
+
+-- sample memory begins at 0x10000
+abbrev pub base : ℕ
+base = 0x10000
+
+unfoldable pub rendering : List ℕ → Call
+rendering m = render base m (replicate 4 zero32)
+
+-- ---- voices that play, and what sample memory has for them
+
+-- four samples of 16 bits from `base` on
+abbrev pub pcmVoice : ℕ → Call
+pcmVoice mix = updating (newVoice 0 mix noSplitter (wave 0 base 8 4 0))
+
+unfoldable pub pcm : List ℕ → List ℕ
+unfolding bytesOf
+pcm [] = []
+pcm (x ∷ xs) = bytesOf 2 x ++ pcm xs
+
+-- the same voice later: not new, and its buffers were sent before
+abbrev pub pcmLater : ℕ → Call
+pcmLater mix = updating (oldVoice 0 mix noSplitter sentBefore)
+
+-- a frame of ADPCM at base + 40, its coefficients at `base`, its context at base + 32
+abbrev pub adpcmVoice : ℕ → Call
+adpcmVoice mix = updating (newAdpcm base mix noSplitter (wave 0 (base + 40) 8 14 (base + 32)))
+
+-- the high byte of the first coefficient, the low byte of the context's last sample, and the first two nibbles
+unfoldable pub adpcm : ℕ → ℕ → ℕ → List ℕ
+unfolding laidFrom
+adpcm coefficient last nibbles = laidFrom 0 48 (byte 1 coefficient ∷ byte 34 last ∷ byte 41 nibbles ∷ [])
+
+-- ---- frames
+
+-- of an odd sample n: n / 32768, left and right
+abbrev pub frame : ℕ → List Float
+frame n = fin false n (negsuc 14) ∷ fin false n (negsuc 14) ∷ []
+
+abbrev pub silence : List Float
+silence = zero32 ∷ zero32 ∷ []

@@ -1,0 +1,1 @@
+// Sessions that are computed: the crate is its specs/.

@@ -1,0 +1,100 @@
+/* Jeqlluna: an audio renderer, proved. The library is built for x86-64 Linux by `rt staticlib cabi` (target/staticlib/libcabi.a).
+ *
+ * A slice is a pointer and a count of elements. The caller owns all memory; a call keeps no pointer after it returns and allocates nothing.
+ * The caller sees to it that a pointer is aligned, that so many elements lie there, that it is not NULL (also where the count is 0), and that
+ * a slice which is written overlaps no other slice of the call, and nobody else uses it meanwhile. Any contents and any numbers are allowed.
+ *
+ * A renderer is five slices: words, longs, floats, contexts and history. jeqlluna_lengths says how long each is, jeqlluna_open fills them,
+ * updates and renders go on from what the call before left there. Copying all five copies the renderer. Each may be used by one thread at a time.
+ *
+ * Each call answers a number: 0, or the first question that it answered "no". Then its other results are 0 and no slice has changed. */
+#ifndef JEQLLUNA_H
+#define JEQLLUNA_H
+
+#include <stddef.h>
+#include <stdint.h>
+
+#ifdef __cplusplus
+extern "C" {
+#endif
+
+enum {
+    JEQLLUNA_OK = 0,
+    JEQLLUNA_SAMPLES = 1, /* samples per render are not 1..256 */
+    JEQLLUNA_COUNTS = 2,  /* another count of the parameters is too large */
+    JEQLLUNA_LENGTHS = 3, /* the five slices are not as long as jeqlluna_lengths says */
+    JEQLLUNA_STATE = 4,   /* the five slices hold no renderer */
+    JEQLLUNA_MEMORY = 5,  /* base + memory_len is above 2^63 */
+    JEQLLUNA_REPLY = 6,   /* the reply slice is too short */
+    JEQLLUNA_FRAMES = 7,  /* the frame slice is shorter than 2 * samples */
+    JEQLLUNA_START = 8,   /* ADPCM: the start is above 2^60 */
+    JEQLLUNA_OUTPUT = 9   /* ADPCM: the output is shorter than count */
+};
+
+/* Bytes of the parameters: 32-bit little-endian numbers. At 0x00 the sample rate, 0x04 samples per render (1..256), 0x08 mix buffers (0..96),
+ * 0x0c sub-mixes (0..31), 0x10 voices (0..64), 0x14 sinks (0..8), 0x18 effects (0..64), 0x24 splitters (0..32), 0x28 splitter destinations
+ * (0..128), 0x30 the revision word. Of a shorter slice a field that is not whole is 0; of a longer one the rest is not read. */
+#define JEQLLUNA_PARAMETERS 0x34
+
+typedef struct {
+    uint32_t number;
+    size_t words, longs, floats, contexts, history; /* elements */
+} JeqllunaLengths;
+
+typedef struct {
+    uint32_t number;
+    size_t size; /* bytes of the reply */
+} JeqllunaUpdate;
+
+typedef struct {
+    uint32_t number;
+    uint32_t rounds; /* rounds that the fetches of all voices took */
+} JeqllunaRender;
+
+/* What an ADPCM decode starts from and leaves: the last header, the last sample and the one before it. */
+typedef struct {
+    uint16_t pred_scale;
+    int16_t history0, history1;
+} JeqllunaContext;
+
+typedef struct {
+    uint32_t number;
+    size_t done; /* samples decoded, fewer than count where the data ran out */
+    JeqllunaContext context;
+} JeqllunaDecoded;
+
+/* How long the five slices of a renderer must be. Refusals: 1, 2. */
+JeqllunaLengths jeqlluna_lengths(const uint8_t *parameters, size_t parameters_len);
+
+/* Makes a renderer, whatever its slices held. Refusals: 1, 2, 3. */
+uint32_t jeqlluna_open(
+    const uint8_t *parameters, size_t parameters_len,
+    uint32_t *words, size_t words_len, uint64_t *longs, size_t longs_len, float *floats, size_t floats_len,
+    uint16_t *contexts, size_t contexts_len, float *history, size_t history_len);
+
+/* A title's update. expected is the size of reply that the title expects, input its bytes. The reply goes to the front of its slice; bytes
+ * beyond it stay. Refusals: 4, 6. */
+JeqllunaUpdate jeqlluna_update(
+    uint32_t *words, size_t words_len, uint64_t *longs, size_t longs_len, float *floats, size_t floats_len,
+    uint16_t *contexts, size_t contexts_len, float *history, size_t history_len,
+    uint32_t expected, const uint8_t *input, size_t input_len, uint8_t *reply, size_t reply_len);
+
+/* One render. memory holds the sample memory from the address base on. 2 * samples floats, left and right by turns, go to the front of
+ * frames; floats beyond them stay. Each is in -1..1 or NaN. Refusals: 4, 5, 7. */
+JeqllunaRender jeqlluna_render(
+    uint32_t *words, size_t words_len, uint64_t *longs, size_t longs_len, float *floats, size_t floats_len,
+    uint16_t *contexts, size_t contexts_len, float *history, size_t history_len,
+    uint64_t base, const uint8_t *memory, size_t memory_len, float *frames, size_t frames_len);
+
+/* Decodes count ADPCM samples from sample start on to the front of output, as whole numbers in the 16-bit range; no renderer is needed. The
+ * data's first byte is the one that holds the start's nibble. There are eight pairs of coefficients: of a longer slice the first 16 numbers
+ * count, and those that a shorter one lacks are 0. Floats beyond the samples stay. Refusals: 8, 9. */
+JeqllunaDecoded jeqlluna_decode_adpcm(
+    const uint8_t *data, size_t data_len, uint64_t start, size_t count, const int16_t *coefficients, size_t coefficients_len,
+    JeqllunaContext context, float *output, size_t output_len);
+
+#ifdef __cplusplus
+}
+#endif
+
+#endif

@@ -1,0 +1,190 @@
+//! A session as document 01 has it. Its questions are answered here, since the Rust has none; everything else is the Rust's.
+use crate::mixer::probe::Slices;
+use crate::renderer::Probe;
+use crate::{Memory, take_rounds};
+
+/// The lengths of the five state slices, or the refusal's number.
+pub fn lengths(parameters: &[u8]) -> Result<[usize; 5], u32> {
+    let p = Probe::parameters(parameters);
+    if !(1..=256).contains(&p[1]) {
+        return Err(1);
+    }
+    let allowed = [96, 31, 64, 8, 64, 32, 128];
+    if p[2..9].iter().zip(allowed).any(|(&n, most)| n > most) {
+        return Err(2);
+    }
+    let s = Probe::open(parameters).slices();
+    Ok([s.words.len(), s.longs.len(), s.floats.len(), s.contexts.len(), s.history.len()])
+}
+
+/// A renderer that was opened, and the list into which it renders.
+pub struct Session {
+    renderer: Probe,
+    samples: usize,
+    frames: Vec<[f32; 2]>,
+}
+
+impl Session {
+    pub fn open(parameters: &[u8], given: [usize; 5]) -> Result<Session, u32> {
+        if given != lengths(parameters)? {
+            return Err(3);
+        }
+        let samples = Probe::parameters(parameters)[1] as usize;
+        Ok(Session { renderer: Probe::open(parameters), samples, frames: Vec::new() })
+    }
+
+    pub fn slices(&self) -> Slices {
+        self.renderer.slices()
+    }
+
+    pub fn reply_length(&self, expected: u32) -> usize {
+        self.renderer.reply_length(expected as usize)
+    }
+
+    pub fn samples(&self) -> usize {
+        self.samples
+    }
+
+    /// An update with this much room for the reply.
+    pub fn update(&mut self, expected: u32, input: &[u8], room: usize) -> Result<Vec<u8>, u32> {
+        if room < self.reply_length(expected) {
+            return Err(6);
+        }
+        Ok(self.renderer.update(input, expected as usize))
+    }
+
+    /// A render with this much room for the frames: left and right by turns, and the rounds.
+    pub fn render(&mut self, base: u64, memory: &[u8], room: usize) -> Result<(Vec<f32>, u64), u32> {
+        if base.checked_add(memory.len() as u64).is_none_or(|end| end > 1 << 63) {
+            return Err(5);
+        }
+        if room < 2 * self.samples {
+            return Err(7);
+        }
+        take_rounds();
+        self.renderer.render_into(&Memory { base, bytes: memory }, &mut self.frames);
+        Ok((self.frames.iter().flatten().copied().collect(), take_rounds()))
+    }
+}
+
+/// A call of the session program.
+enum Call<'a> {
+    Update { expected: u32, input: &'a [u8] },
+    Render,
+}
+
+/// The input's three sections; none where it is not complete, or something comes after it.
+fn sections(input: &[u8]) -> Option<(&[u8], &[u8], Vec<Call<'_>>)> {
+    fn take<'a>(rest: &mut &'a [u8], n: usize) -> Option<&'a [u8]> {
+        let (first, after) = rest.split_at_checked(n)?;
+        *rest = after;
+        Some(first)
+    }
+    fn number(rest: &mut &[u8]) -> Option<u32> {
+        Some(u32::from_le_bytes(take(rest, 4)?.try_into().unwrap()))
+    }
+    fn block<'a>(rest: &mut &'a [u8]) -> Option<&'a [u8]> {
+        let n = number(rest)? as usize;
+        take(rest, n)
+    }
+    let rest = &mut { input };
+    let (parameters, memory) = (block(rest)?, block(rest)?);
+    let mut calls = Vec::new();
+    for _ in 0..number(rest)? {
+        calls.push(match take(rest, 1)? {
+            [0] => Call::Update { expected: number(rest)?, input: block(rest)? },
+            [1] => Call::Render,
+            _ => return None,
+        });
+    }
+    (rest.is_empty() && parameters.len() == 0x34).then_some((parameters, memory, calls))
+}
+
+/// What the session program prints for this input. Question 10's limits on sizes can be lifted; the rest of it always holds.
+pub fn program(input: &[u8], limits: bool) -> String {
+    let mut out = String::new();
+    if let Err(number) = run(input, limits, &mut out) {
+        out.push_str(&format!("refused {number}\n"));
+    }
+    out
+}
+
+fn run(input: &[u8], limits: bool, out: &mut String) -> Result<(), u32> {
+    let (parameters, memory, calls) = sections(input).ok_or(10u32)?;
+    let p = Probe::parameters(parameters);
+    let most = [(1, 64), (2, 12), (3, 3), (4, 4), (7, 8), (8, 8)];
+    if limits && (input.len() > 65_536 || most.iter().any(|&(k, n)| p[k] > n)) {
+        return Err(10);
+    }
+    let mut session = Session::open(parameters, lengths(parameters)?)?;
+    for call in calls {
+        match call {
+            Call::Render => {
+                let (frames, _) = session.render(0x10000, memory, 2 * session.samples)?;
+                out.push_str(&format!("frames {}", session.samples));
+                for x in frames {
+                    let bits = if x.is_nan() { 0x7fc0_0000 } else { x.to_bits() };
+                    out.push_str(&format!(" {bits:08x}"));
+                }
+            }
+            Call::Update { expected, input } => {
+                let reply = session.update(expected, input, 16_384)?;
+                out.push_str(&format!("reply {}", reply.len()));
+                for (k, w) in reply.chunks(4).enumerate() {
+                    let mut word = [0; 4];
+                    word[..w.len()].copy_from_slice(w);
+                    if word != [0; 4] {
+                        out.push_str(&format!(" {:04x}:{:08x}", k * 4, u32::from_le_bytes(word)));
+                    }
+                }
+            }
+        }
+        out.push('\n');
+    }
+    Ok(())
+}
+
+#[cfg(test)]
+mod tests {
+    use super::program;
+
+    /// Parameters with this many samples and voices, no memory, and these calls.
+    fn input(samples: u32, voices: u32, count: u32, calls: &[u8]) -> Vec<u8> {
+        let mut p = [0u8; 0x34];
+        p[4..8].copy_from_slice(&samples.to_le_bytes());
+        p[0x10..0x14].copy_from_slice(&voices.to_le_bytes());
+        p[0x30..].copy_from_slice(&0x3556_4552u32.to_le_bytes());
+        [&0x34u32.to_le_bytes()[..], &p, &[0; 4], &count.to_le_bytes(), calls].concat()
+    }
+
+    fn update(expected: u32) -> Vec<u8> {
+        [&[0][..], &expected.to_le_bytes(), &[0; 4]].concat()
+    }
+
+    #[test]
+    fn worked_example() {
+        let calls = [&[1][..], &update(272)].concat();
+        let printed = "frames 2 00000000 00000000 00000000 00000000\n\
+            reply 272 0000:35564552 0004:000000b0 0020:00000010 0028:00000010 003c:00000110 0100:00000001\n";
+        assert_eq!(program(&input(2, 0, 2, &calls), true), printed);
+        assert_eq!(program(&input(2, 0, 2, &calls), false), printed);
+    }
+
+    #[test]
+    fn refusals() {
+        let ten = "refused 10\n";
+        assert_eq!(program(&[], true), ten);
+        assert_eq!(program(&input(2, 0, 2, &[1]), true), ten, "a call is missing");
+        assert_eq!(program(&input(2, 0, 1, &[1, 1]), true), ten, "something comes after it");
+        assert_eq!(program(&input(2, 0, 1, &[2]), true), ten, "no such call");
+        assert_eq!(program(&input(65, 0, 0, &[]), true), ten, "too many samples");
+        assert_eq!(program(&input(65, 0, 0, &[]), false), "");
+        assert_eq!(program(&input(2, 5, 0, &[]), true), ten, "too many voices");
+        assert_eq!(program(&input(2, 65, 0, &[]), false), "refused 2\n");
+        assert_eq!(program(&input(0, 0, 1, &[1]), true), "refused 1\n");
+        let mut short = input(2, 0, 0, &[]);
+        short.remove(4);
+        short[0] -= 1;
+        assert_eq!(program(&short, true), ten, "other parameters");
+    }
+}
