@@ -1,0 +1,11 @@
+pub mod Input
+pub mod Question
+pub mod Calls
+pub mod Asked
+pub mod Text
+pub mod Lines
+pub mod Written
+pub mod Digits
+pub mod Words
+pub mod Line
+pub mod Examples

@@ -1,0 +1,141 @@
+// A call of a session: run on a renderer, and its line written at the front of a lent slice.
+ghost use mathlib.Core.Path.{_≡_};
+ghost use Prim.Native.Nat.{_≤_};
+ghost use lib.ListN.{length};
+ghost use Rattle.state.specs.State.{stateOf};
+ghost use Rattle.session.specs.Text.{text, append};
+ghost use Rattle.session.specs.Lines.{refusedLine};
+ghost use Rattle.session_calls.specs.Steps.{step, renderStep, updateStep, callStep};
+use renderer::RenderAnswer;
+use renderer::UpdateAnswer;
+use session::Call;
+
+// Where sample memory stands.
+const BASE: u64 = 0x10000;
+
+// A refusal's number, or 0; and the length of the call's line.
+pub struct Line {
+    pub number: u32,
+    pub size: usize,
+}
+
+fn refused(number: u32, out: &mut [u8]) -> Line
+    requires { ⌜ 65536 ≤ length (now out) ⌝ }
+    ensures { λ r. ⌜ (r .number ≡ number) × (text (now (out .exit)) (r .size) ≡ append (text (now (out .entry)) 0) (refusedLine number)) ⌝ }
+    ensures { λ r. ⌜ r .size ≤ length (now (out .exit)) ⌝ }
+{
+    let size = session::refused_line(number, out);
+    Line { number, size }
+}
+
+fn run_render(
+    memory: &[u8],
+    words: &mut [u32],
+    longs: &mut [u64],
+    floats: &mut [f32],
+    contexts: &mut [u16],
+    history: &mut [f32],
+    frames: &mut [f32],
+    out: &mut [u8],
+) -> Line
+    requires { ⌜ length (now frames) ≤ 128 ⌝ }
+    requires { ⌜ 65536 ≤ length (now out) ⌝ }
+    ensures { λ r. ⌜ step (r .number) (stateOf (now (words .exit)) (now (longs .exit)) (now (floats .exit)) (now (contexts .exit)) (now (history .exit))) (text (now (out .exit)) (r .size))
+        ≡ renderStep (stateOf (now (words .entry)) (now (longs .entry)) (now (floats .entry)) (now (contexts .entry)) (now (history .entry))) (now (memory .entry)) (now (frames .entry)) (now (out .entry)) ⌝ }
+    ensures { λ r. ⌜ r .size ≤ length (now (out .exit)) ⌝ }
+{
+    let answer = renderer::render(
+        words,
+        longs,
+        floats,
+        contexts,
+        history,
+        BASE,
+        memory,
+        frames,
+    );
+    match answer {
+        RenderAnswer::Rendered(_) => {
+            let size = session::frames_line(frames, out);
+            Line { number: 0, size }
+        }
+        RenderAnswer::NotWhole => refused(4, out),
+        RenderAnswer::FarMemory => refused(5, out),
+        RenderAnswer::ShortFrames => refused(7, out),
+    }
+}
+
+fn run_update(
+    expected: u32,
+    input: &[u8],
+    words: &mut [u32],
+    longs: &mut [u64],
+    floats: &mut [f32],
+    contexts: &mut [u16],
+    history: &mut [f32],
+    reply: &mut [u8],
+    out: &mut [u8],
+) -> Line
+    requires { ⌜ length (now reply) ≤ 16384 ⌝ }
+    requires { ⌜ 65536 ≤ length (now out) ⌝ }
+    ensures { λ r. ⌜ step (r .number) (stateOf (now (words .exit)) (now (longs .exit)) (now (floats .exit)) (now (contexts .exit)) (now (history .exit))) (text (now (out .exit)) (r .size))
+        ≡ updateStep (stateOf (now (words .entry)) (now (longs .entry)) (now (floats .entry)) (now (contexts .entry)) (now (history .entry))) expected (now (input .entry)) (now (reply .entry)) (now (out .entry)) ⌝ }
+    ensures { λ r. ⌜ r .size ≤ length (now (out .exit)) ⌝ }
+{
+    let answer = renderer::update(
+        words,
+        longs,
+        floats,
+        contexts,
+        history,
+        expected,
+        input,
+        reply,
+    );
+    match answer {
+        UpdateAnswer::Updated(n) => {
+            let size = session::reply_line(&reply[..n], out);
+            Line { number: 0, size }
+        }
+        UpdateAnswer::NotWhole => refused(4, out),
+        UpdateAnswer::ShortReply => refused(6, out),
+    }
+}
+
+// The call at the front of d. Its input, if it has one, is behind nine bytes.
+pub fn run_call(
+    call: Call,
+    d: &[u8],
+    memory: &[u8],
+    words: &mut [u32],
+    longs: &mut [u64],
+    floats: &mut [f32],
+    contexts: &mut [u16],
+    history: &mut [f32],
+    frames: &mut [f32],
+    reply: &mut [u8],
+    out: &mut [u8],
+) -> Line
+    requires { ⌜ length (now frames) ≤ 128 ⌝ }
+    requires { ⌜ length (now reply) ≤ 16384 ⌝ }
+    requires { ⌜ 65536 ≤ length (now out) ⌝ }
+    ensures { λ r. ⌜ step (r .number) (stateOf (now (words .exit)) (now (longs .exit)) (now (floats .exit)) (now (contexts .exit)) (now (history .exit))) (text (now (out .exit)) (r .size))
+        ≡ callStep call (now (d .entry)) (now (memory .entry)) (stateOf (now (words .entry)) (now (longs .entry)) (now (floats .entry)) (now (contexts .entry)) (now (history .entry))) (now (frames .entry)) (now (reply .entry)) (now (out .entry)) ⌝ }
+    ensures { λ r. ⌜ r .size ≤ length (now (out .exit)) ⌝ }
+{
+    match call {
+        Call::Render => run_render(memory, words, longs, floats, contexts, history, frames, out),
+        Call::Update { expected, size } => run_update(
+            expected,
+            fields::section(d, 9, size as usize),
+            words,
+            longs,
+            floats,
+            contexts,
+            history,
+            reply,
+            out,
+        ),
+        Call::Nothing => refused(10, out),
+    }
+}
