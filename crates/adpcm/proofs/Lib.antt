@@ -1,2 +1,4 @@
 pub mod Ints
 pub mod Going
+pub mod Frames
+pub mod Framed

@@ -6,6 +6,8 @@ ghost use Rattle.adpcm.specs.Decode.{halfOf, valueOf, tookOf, runOf, Dec
 ghost use Rattle.adpcm.specs.Runs.{countOf};
 ghost use Rattle.adpcm.specs.Answer.{seen, outcomeOf};
 use crate::context::AdpcmContext;
+use crate::frame::begins_frame;
+use crate::frame::decode_frame;
 use crate::places::Byte;
 use crate::places::Sample;
 use crate::places::adpcm_nibble;
@@ -115,15 +117,26 @@ pub fn decode_adpcm(
     let mut done: usize = 0;
     while done < count {
         let m = start.plus(done as u64);
-        match take_one(data, base, m, coefficients, x) {
-            Took::Short(y) => {
-                return Decoded { done, context: y };
-            }
-            Took::Got(y) => {
-                let h = y.history0;
-                out[done] = h as f32;
-                x = y;
-                done += 1;
+        let at = adpcm_nibble_byte(m).index_from(base);
+        if begins_frame(data.len(), at, m, count, done) {
+            x = decode_frame(
+                &data[at..at + 8],
+                coefficients,
+                x,
+                &mut out[done..done + 14],
+            );
+            done += 14;
+        } else {
+            match take_one(data, base, m, coefficients, x) {
+                Took::Short(y) => {
+                    return Decoded { done, context: y };
+                }
+                Took::Got(y) => {
+                    let h = y.history0;
+                    out[done] = h as f32;
+                    x = y;
+                    done += 1;
+                }
             }
         }
     }

@@ -8,6 +8,7 @@ const ADPCM_BYTES_PER_FRAME: u64 = 8;
 
 mod context;
 mod decode;
+mod frame;
 mod places;
 mod step;
 

@@ -8,9 +8,9 @@ use lib.ListN.{length}
 use lib.Ieee.{Float}
 use Rattle.rows.specs.Rows.{put, put-part}
 use Rattle.rows.specs.Tables.{table}
-use Rattle.fields.specs.Fields.{fieldAt}
+use Rattle.fields.specs.Fields.{fieldAt, flagAt}
 use Rattle.desk.specs.Parts.{put-front}
-use Rattle.desk.specs.Records.{floatAt, flagAt, wordOf}
+use Rattle.desk.specs.Records.{floatAt, wordOf}
 use Rattle.desk.specs.Sinks.{sinkRows, isDevice, deviceRow, sinkWordsIf, sinkFloatsIf, sinkPut}
 
 module _ (p : List ℕ) (k : ℕ) (w : List ℕ) {w′ : List ℕ} (f : List Float) {f′ : List Float} (wide : k * 10 + 10 ≤ length w) (long : k * 4 + 4 ≤ length f) where

@@ -7,9 +7,9 @@ use lib.ListN.{length}
 use lib.Ieee.{Float}
 use Rattle.rows.specs.Rows.{put, length-put}
 use Rattle.rows.specs.Folds.{upTo}
+use Rattle.rows.specs.Loops.{upTo-keeps}
 use Rattle.rows.specs.Tables.{table, length-table}
 use Rattle.fields.specs.Fields.{sectionOf}
-use Rattle.desk.specs.Steps.{upTo-holds}
 use Rattle.desk.specs.Records.{floatAt}
 
 -- record k of the section
@@ -25,7 +25,7 @@ unfoldable pub channelsOf : List ℕ → ℕ → List Float → List Float
 channelsOf d n f = upTo (channelStep d) (min n (length d / 0x70)) f
 
 -- the length stays
-step-long : (d : List ℕ) (n k : ℕ) (f : List Float) → k < n → length f ≡ n * 48 → length (channelStep d k f) ≡ n * 48
+pub step-long : (d : List ℕ) (n k : ℕ) (f : List Float) → k < n → length f ≡ n * 48 → length (channelStep d k f) ≡ n * 48
 unfolding channelStep
 step-long d n k f b h =
     let fits : k * 48 + length (table 24 (floatAt (channelRecord d k) 4)) ≤ length f = rw length-table (omega arith) in
@@ -35,4 +35,4 @@ pub length-channels : (d : List ℕ) (n : ℕ) (f : List Float) → length f ≡
 unfolding channelsOf
 length-channels d n f h =
     let m = min n (length d / 0x70) in
-    upTo-holds (channelStep d) (λ g. length g ≡ n * 48) m (λ k g b. step-long d n k g (omega arith)) m f (omega arith) h
+    upTo-keeps (λ g. length g ≡ n * 48) (channelStep d) m (λ k g b. step-long d n k g (omega arith)) m f (omega arith) h

@@ -1,4 +1,3 @@
-pub mod Steps
 pub mod Columns
 pub mod Parts
 pub mod Records

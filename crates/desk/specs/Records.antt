@@ -1,18 +1,13 @@
 -- Fields of a record, as the updates read them. Definitions only.
-use mathlib.Core.Bool.{Bool, true, false, not}
+use mathlib.Core.Bool.{Bool, true, false}
 use mathlib.Core.List.{List}
 use Prim.Native.Nat.{ℕ, _+_, _*_}
-use lib.Dec.{eqb}
 use lib.Ieee.{Float, ofBits, binary32}
 use Rattle.fields.specs.Fields.{fieldAt}
 
 -- the float at o + 4 j of a record
 unfoldable pub floatAt : List ℕ → ℕ → ℕ → Float
 floatAt p o j = ofBits binary32 (fieldAt 4 p (o + j * 4))
-
--- a byte that is not 0
-unfoldable pub flagAt : List ℕ → ℕ → Bool
-flagAt p o = not (eqb (fieldAt 1 p o) 0)
 
 -- a flag as a word
 abbrev pub wordOf : Bool → ℕ

@@ -1,5 +1,5 @@
 -- Laws of `update_sinks`: what it keeps of the sinks' rows. Assumes nothing.
-use mathlib.Core.Path.{_≡_, refl, sym, subst, _∙_}
+use mathlib.Core.Path.{_≡_, refl, _∙_}
 use mathlib.Core.Bool.{Bool, true, false}
 use mathlib.Core.List.{List}
 use Prim.Native.Nat.{ℕ, _+_, _*_, _/_, _≤_, _<_, min}
@@ -9,9 +9,10 @@ use lib.ListN.{length, getD, length-drop}
 use lib.Seq.{getD-drop}
 use lib.Ieee.{Float}
 use Rattle.rows.specs.Rows.{part, length-put, length-part}
+use Rattle.rows.specs.Loops.{upTo-keeps}
 use Rattle.rows.specs.Tables.{length-table}
-use Rattle.desk.specs.Records.{floatAt, flagAt, wordOf}
-use Rattle.desk.specs.Steps.{upTo-holds}
+use Rattle.fields.specs.Fields.{flagAt}
+use Rattle.desk.specs.Records.{floatAt, wordOf}
 use Rattle.desk.specs.Columns.{AtMost, at-most-put}
 use Rattle.desk.specs.Parts.{getD-part}
 use Rattle.desk.specs.Sinks.{SinkRows, SinksSized, sinkRecord, isDevice, deviceRow, sinkWordsIf, sinkFloatsIf, sinkPut, sinkStep, sinksOf}
@@ -102,9 +103,9 @@ module _ (n k : ℕ) (p : List ℕ) (st : SinkRows) (b : k < n) (s : Sized n st)
   }
 
 -- record k leaves the rows sized
-pub step-sized : (n : ℕ) (d : List ℕ) (k : ℕ) (st : SinkRows) {st′ : SinkRows} → k < n → st′ ≡ sinkStep d k st → Sized n st → Sized n st′
+pub step-sized : (n : ℕ) (d : List ℕ) (k : ℕ) (st : SinkRows) → k < n → Sized n st → Sized n (sinkStep d k st)
 unfolding sinkStep
-step-sized n d k st b e s = subst (Sized n) (sym e) (put-sized n k (sinkRecord d k) st b s)
+step-sized n d k st b s = put-sized n k (sinkRecord d k) st b s
 
 -- ---- `update_sinks`
 
@@ -113,7 +114,7 @@ module _ {ℓ} (n : ℕ) (P : SinkRows → Type ℓ) (keeps : (k : ℕ) (p : Lis
   unfolding sinksOf sinkStep
   sinks-keep d st h =
       let m = min n (length d / 0x140) in
-      upTo-holds (sinkStep d) P m (λ k st′ l h′. keeps k (sinkRecord d k) st′ (omega (arith, min-le-left n (length d / 0x140))) h′) m st (omega arith) h
+      upTo-keeps P (sinkStep d) m (λ k st′ l h′. keeps k (sinkRecord d k) st′ (omega (arith, min-le-left n (length d / 0x140))) h′) m st (omega arith) h
 
 -- the lengths stay
 pub sinks-sized : (n : ℕ) (d : List ℕ) (st : SinkRows) → Sized n st → Sized n (sinksOf d n st)

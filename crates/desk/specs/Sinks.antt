@@ -11,8 +11,8 @@ use lib.Ieee.{Float}
 use Rattle.rows.specs.Rows.{put, part}
 use Rattle.rows.specs.Folds.{upTo}
 use Rattle.rows.specs.Tables.{table}
-use Rattle.fields.specs.Fields.{fieldAt, sectionOf}
-use Rattle.desk.specs.Records.{floatAt, flagAt, wordOf}
+use Rattle.fields.specs.Fields.{fieldAt, flagAt, sectionOf}
+use Rattle.desk.specs.Records.{floatAt, wordOf}
 
 -- the rows of all sinks
 pub record SinkRows : Type 0 where

@@ -3,7 +3,6 @@ ghost use mathlib.Core.Path.{_≡_};
 ghost use Prim.Native.Nat.{_+_, _*_, _≤_};
 ghost use lib.ListN.{length};
 ghost use Rattle.desk.specs.Channels.{channelStep, channelsOf};
-use crate::records::least;
 use crate::records::put_floats;
 
 // Channel resource k's mix, from its record.
@@ -19,7 +18,7 @@ pub fn update_channel_resources(d: &[u8], n: usize, floats: &mut [f32])
     requires { ⌜ (length (now floats) ≡ n * 48) × (n ≤ 64) ⌝ }
     ensures { λ _. ⌜ now (floats .exit) ≡ channelsOf (now (d .entry)) n (now (floats .entry)) ⌝ }
 {
-    let count = least(n, d.len() / 0x70);
+    let count = fields::least(n, d.len() / 0x70);
     let mut k = 0;
     while k < count {
         channel_record(d, k, floats);

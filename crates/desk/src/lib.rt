@@ -6,7 +6,5 @@ mod sinks;
 
 pub use channels::update_channel_resources;
 pub use records::at_most;
-pub use records::flag_at;
-pub use records::least;
 pub use records::put_floats;
 pub use sinks::update_sinks;

@@ -5,21 +5,7 @@ ghost use lib.ListN.{length};
 ghost use Rattle.fields.specs.Fields.{fieldAt};
 ghost use Rattle.rows.specs.Rows.{put};
 ghost use Rattle.rows.specs.Tables.{table};
-ghost use Rattle.desk.specs.Records.{floatAt, flagAt};
-
-// The lesser of two numbers.
-pub fn least(a: usize, b: usize) -> usize
-    ensures { λ r. ⌜ r ≡ min a b ⌝ }
-{
-    if a < b { a } else { b }
-}
-
-// Whether the byte at o is not 0.
-pub fn flag_at(p: &[u8], o: usize) -> bool
-    ensures { λ r. ⌜ r ≡ flagAt (now (p .entry)) o ⌝ }
-{
-    fields::byte_at(p, o) != 0
-}
+ghost use Rattle.desk.specs.Records.{floatAt};
 
 // A number of 32 bits, or `most` where it is above.
 pub fn at_most(p: &[u8], o: usize, most: u32) -> u32

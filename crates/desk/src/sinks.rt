@@ -7,8 +7,6 @@ ghost use Rattle.fields.specs.Fields.{fieldAt};
 ghost use Rattle.rows.specs.Rows.{put};
 ghost use Rattle.desk.specs.Sinks.{SinksSized, sinkRows, deviceRow, sinkStep, sinkPut, sinksOf};
 use crate::records::at_most;
-use crate::records::flag_at;
-use crate::records::least;
 use crate::records::put_floats;
 
 // An input, the byte at o.
@@ -23,7 +21,7 @@ fn put_device(p: &[u8], words: &mut [u32], at: usize)
     requires { ⌜ at + 10 ≤ length (now words) ⌝ }
     ensures { λ _. ⌜ now (words .exit) ≡ put (now (words .entry)) at (deviceRow (now (p .entry))) ⌝ }
 {
-    let used = flag_at(p, 1) as u32;
+    let used = fields::flag_at(p, 1) as u32;
     let count = at_most(p, 0x120, 6);
     let i0 = input(p, 0x124);
     let i1 = input(p, 0x125);
@@ -31,7 +29,7 @@ fn put_device(p: &[u8], words: &mut [u32], at: usize)
     let i3 = input(p, 0x127);
     let i4 = input(p, 0x128);
     let i5 = input(p, 0x129);
-    let given = flag_at(p, 0x12b) as u32;
+    let given = fields::flag_at(p, 0x12b) as u32;
     let row = [used, 1, count, i0, i1, i2, i3, i4, i5, given];
     rows::copy_in_u32(words, at, &row);
 }
@@ -47,7 +45,7 @@ fn put_sink(p: &[u8], k: usize, words: &mut [u32], floats: &mut [f32])
         put_floats(p, 0x12c, 4, floats, k * 4);
         return;
     }
-    let used = flag_at(p, 1) as u32;
+    let used = fields::flag_at(p, 1) as u32;
     let row = [used, 0];
     rows::copy_in_u32(words, at, &row);
 }
@@ -66,7 +64,7 @@ pub fn update_sinks(d: &[u8], n: usize, words: &mut [u32], floats: &mut [f32])
     ensures { λ _. ⌜ now (words .exit) ≡ sinksOf (now (d .entry)) n (sinkRows (now (words .entry)) (now (floats .entry))) .words ⌝ }
     ensures { λ _. ⌜ now (floats .exit) ≡ sinksOf (now (d .entry)) n (sinkRows (now (words .entry)) (now (floats .entry))) .floats ⌝ }
 {
-    let count = least(n, d.len() / 0x140);
+    let count = fields::least(n, d.len() / 0x140);
     let mut k = 0;
     while k < count {
         sink_record(d, k, words, floats);

@@ -9,9 +9,9 @@ use lib.ListN.{length, set}
 use lib.Ieee.{Float}
 use Rattle.rows.specs.Rows.{put, put-one, put-part, put-more}
 use Rattle.rows.specs.Tables.{table, length-table}
-use Rattle.fields.specs.Fields.{sectionOf}
+use Rattle.fields.specs.Fields.{flagAt, sectionOf}
 use Rattle.desk.specs.Parts.{put-front}
-use Rattle.desk.specs.Records.{floatAt, flagAt}
+use Rattle.desk.specs.Records.{floatAt}
 use Rattle.desk_mixes.specs.Mixes.{MixRows, mixRows, mixBase, mixRecord, mixId, mixHead, mixVolumes, mixWordsIf, mixFloatsIf, mixWords, mixFloats, mixPut, mixPutIf, mixAct, mixStep}
 
 -- the volume, and the volumes behind it

@@ -11,9 +11,10 @@ use lib.ListN.{length, getD, length-drop}
 use lib.Seq.{getD-drop}
 use lib.Ieee.{Float}
 use Rattle.rows.specs.Rows.{part, length-put, length-part}
+use Rattle.rows.specs.Loops.{upTo-keeps}
 use Rattle.rows.specs.Tables.{length-table}
-use Rattle.desk.specs.Records.{floatAt, flagAt}
-use Rattle.desk.specs.Steps.{upTo-holds}
+use Rattle.fields.specs.Fields.{flagAt}
+use Rattle.desk.specs.Records.{floatAt}
 use Rattle.desk.specs.Columns.{AtMost, at-most-put}
 use Rattle.desk.specs.Parts.{getD-part}
 use Rattle.desk_mixes.specs.Mixes.{MixRows, MixesSized, dirtyOnly, mixBase, mixCount, mixesRead, mixRecord, mixId, mixHead, mixVolumes, mixWordsIf, mixFloatsIf, mixWords, mixFloats, mixPut, mixPutIf, mixAct, mixStep, mixRecords, countsBefore, mixesOf}
@@ -103,7 +104,7 @@ module _ {ℓ} (n : ℕ) (P : MixRows → Type ℓ) (keeps : (id : ℕ) (p : Lis
   pub records-keep : (dirty : Bool) (d : List ℕ) (st : MixRows) → P st → P (mixRecords dirty d n st)
   unfolding mixRecords
   records-keep dirty d st h =
-      upTo-holds (mixStep dirty d n) P (mixesRead dirty d) (λ i st′ _ h′. step-keeps dirty d i st′ h′) (mixesRead dirty d) st (omega arith) h
+      upTo-keeps P (mixStep dirty d n) (mixesRead dirty d) (λ i st′ _ h′. step-keeps dirty d i st′ h′) (mixesRead dirty d) st (omega arith) h
 
 abbrev pub Sized : ℕ → MixRows → Type 0
 Sized n st = MixesSized n (st .words) (st .floats)

@@ -1,7 +1,7 @@
 -- mixer.rs `update_mixes`. A mix's words are 5: used, buffer_count, destination, splitter, offset; its floats 577: volume, 576 volumes.
 -- Definitions only.
 use mathlib.Core.Path.{_≡_}
-use mathlib.Core.Bool.{Bool, true, false, cond}
+use mathlib.Core.Bool.{Bool, true, false}
 use mathlib.Core.List.{List, [], _∷_, _++_}
 use Prim.Native.Nat.{ℕ, zero, suc, _+_, _-_, _*_, _/_, _≤_, _<_, min}
 use lib.Dec.{leb, ltb}
@@ -10,8 +10,8 @@ use lib.Ieee.{Float}
 use Rattle.rows.specs.Rows.{put, part}
 use Rattle.rows.specs.Folds.{upTo}
 use Rattle.rows.specs.Tables.{table}
-use Rattle.fields.specs.Fields.{fieldAt, sectionOf}
-use Rattle.desk.specs.Records.{floatAt, flagAt}
+use Rattle.fields.specs.Fields.{fieldAt, flagAt, positive, sectionOf}
+use Rattle.desk.specs.Records.{floatAt}
 
 -- the rows of all mixes
 pub record MixRows : Type 0 where
@@ -52,10 +52,6 @@ mixesRead dirty d = min (mixCount dirty d) ((length d - mixBase dirty) / 0x930)
 -- record i
 unfoldable pub mixRecord : Bool → List ℕ → ℕ → List ℕ
 mixRecord dirty d i = sectionOf d (mixBase dirty + i * 0x930) 0x930
-
--- a number of 32 bits, signed, or 0 where it is below 0
-unfoldable pub positive : ℕ → ℕ
-positive v = cond (ltb v 0x80000000) v 0
 
 -- the mix that record i, p, is for
 unfoldable pub mixId : Bool → List ℕ → ℕ → ℕ

@@ -4,7 +4,7 @@ ghost use mathlib.Core.Path.{_≡_};
 ghost use Prim.Native.Nat.{_+_, _*_, _≤_, _<_};
 ghost use lib.ListN.{length};
 ghost use Rattle.rows.specs.Rows.{put};
-ghost use Rattle.desk_mixes.specs.Mixes.{MixesSized, mixRows, dirtyOnly, mixBase, mixesRead, positive, mixId, mixHead, mixVolumes, mixPut, mixStep, mixRecords, mixesOf};
+ghost use Rattle.desk_mixes.specs.Mixes.{MixesSized, mixRows, dirtyOnly, mixBase, mixesRead, mixId, mixHead, mixVolumes, mixPut, mixStep, mixRecords, mixesOf};
 use crate::offsets::mix_offsets;
 
 // From revision 7 on there are records of changed mixes only, behind a header.
@@ -30,16 +30,9 @@ fn mixes_read(d: &[u8], dirty: bool) -> usize
             return 0;
         }
         let count = fields::u32_at(d, 4) as usize;
-        return desk::least(count, (d.len() - 0x20) / 0x930);
+        return fields::least(count, (d.len() - 0x20) / 0x930);
     }
     d.len() / 0x930
-}
-
-// A number of 32 bits, signed, or 0 where it is below 0.
-fn or_zero(v: u32) -> u32
-    ensures { λ r. ⌜ r ≡ positive v ⌝ }
-{
-    if v < 0x8000_0000 { v } else { 0 }
 }
 
 // The mix that record i is for.
@@ -47,7 +40,7 @@ fn mix_id(p: &[u8], dirty: bool, i: usize) -> usize
     ensures { λ r. ⌜ r ≡ mixId dirty (now (p .entry)) i ⌝ }
 {
     if dirty {
-        return or_zero(fields::u32_at(p, 0x10)) as usize;
+        return fields::positive(fields::u32_at(p, 0x10)) as usize;
     }
     i
 }
@@ -79,7 +72,7 @@ fn put_mix(p: &[u8], id: usize, words: &mut [u32], floats: &mut [f32])
     ensures { λ _. ⌜ mixRows (now (words .exit)) (now (floats .exit)) ≡ mixPut (now (p .entry)) id (mixRows (now (words .entry)) (now (floats .entry))) ⌝ }
 {
     let at = id * 5;
-    if desk::flag_at(p, 0x0c) {
+    if fields::flag_at(p, 0x0c) {
         put_words(p, words, at);
         put_volumes(p, floats, id * 577);
         return;

@@ -1,42 +1,39 @@
 -- The rows of a kind as they are lent, and what is made of them. Assumes nothing.
 use mathlib.Core.Path.{_≡_, _∙_}
 use mathlib.Core.List.{List, _++_}
-use Prim.Native.Nat.{ℕ, _+_, _-_, _*_, _≤_}
+use Prim.Native.Nat.{ℕ, _+_, _-_, _*_}
 use native.Mathlib.Omega.{arith}
 use lib.Ieee.{Float}
 use lib.ListN.{length, take, drop}
-use Rattle.rows.specs.Rows.{part, part-cut, length-part}
+use Rattle.rows.specs.Rows.{length-part}
+use Rattle.rows.specs.Lent.{part-between}
 use Rattle.params.specs.declared.params.Params.{Params}
 use Rattle.state.specs.declared.Places.{Places}
-use Rattle.state.specs.State.{At, mixesOf, mixWords, sinkWords, listWords, wordsOf, mixFloats, sinkFloats, destinationFloats, floatsOf, mixWordsIn, mixFloatsIn, sinkWordsIn, sinkFloatsIn, listWordsIn, destinationFloatsIn}
+use Rattle.state.specs.State.{At, mixesOf, mixWords, sinkWords, listWords, mixFloats, sinkFloats, destinationFloats, mixWordsIn, mixFloatsIn, sinkWordsIn, sinkFloatsIn, listWordsIn, destinationFloatsIn}
 use Rattle.desk_rows.specs.DeskRows.{Mixes, Lists}
 use Rattle.mixing.specs.Mixing.{mixedDown}
 use Rattle.mixing.specs.Laws.{length-mixed-down}
 use Rattle.frames.specs.Frames.{Sinks, framesOf}
 use Rattle.desk_render.specs.DeskRender.{Mixable, mixedBy, framesBy}
 
--- w elements from `from`, lent as `&s[a..b]`
-lent {ℓ} : {A : Type ℓ} (s : List A) (from w : ℕ) {a b : ℕ} → a ≡ from → b ≡ from + w → take (b - a) (drop a s) ≡ part w from s
-lent s from w ea eb = (λ j. take (eb j - ea j) (drop (ea j) s)) ∙ part-cut s from w
-
 module _ {p : Params} {at : Places} (e : At p at) {words : List ℕ} {floats : List Float} (h : Mixable p words floats) where
   mixes-is : take (at .«sink_words» - at .«mix_words») (drop (at .«mix_words») words) ≡ mixWordsIn p words
-  mixes-is = lent words (mixWords p) (mixesOf p * 5) (e .mix-words) (e .sink-words)
+  mixes-is = part-between words (mixWords p) (mixesOf p * 5) (e .mix-words) (e .sink-words)
 
   volumes-is : take (at .«sink_floats» - at .«mix_floats») (drop (at .«mix_floats») floats) ≡ mixFloatsIn p floats
-  volumes-is = lent floats (mixFloats p) (mixesOf p * 577) (e .mix-floats) (e .sink-floats)
+  volumes-is = part-between floats (mixFloats p) (mixesOf p * 577) (e .mix-floats) (e .sink-floats)
 
   lists-is : take (at .words - at .«list_words») (drop (at .«list_words») words) ≡ listWordsIn p words
-  lists-is = lent words (listWords p) (p .splitters * 129 + p .«splitter_destinations» * 2) (e .list-words) (e .words)
+  lists-is = part-between words (listWords p) (p .splitters * 129 + p .«splitter_destinations» * 2) (e .list-words) (e .words)
 
   destinations-is : take (at .floats - at .«destination_floats») (drop (at .«destination_floats») floats) ≡ destinationFloatsIn p floats
-  destinations-is = lent floats (destinationFloats p) (p .«splitter_destinations» * 48) (e .destination-floats) (e .floats)
+  destinations-is = part-between floats (destinationFloats p) (p .«splitter_destinations» * 48) (e .destination-floats) (e .floats)
 
   sinks-is : take (at .«list_words» - at .«sink_words») (drop (at .«sink_words») words) ≡ sinkWordsIn p words
-  sinks-is = lent words (sinkWords p) (p .sinks * 10) (e .sink-words) (e .list-words)
+  sinks-is = part-between words (sinkWords p) (p .sinks * 10) (e .sink-words) (e .list-words)
 
   factors-is : take (at .«destination_floats» - at .«sink_floats») (drop (at .«sink_floats») floats) ≡ sinkFloatsIn p floats
-  factors-is = lent floats (sinkFloats p) (p .sinks * 4) (e .sink-floats) (e .destination-floats)
+  factors-is = part-between floats (sinkFloats p) (p .sinks * 4) (e .sink-floats) (e .destination-floats)
 
   -- ---- the sub-mixes
 

@@ -1,10 +1,11 @@
 -- Rows of a kind keep their number, so that they come back into their places. Assumes nothing.
-use mathlib.Core.Path.{_≡_, ap, sym, _∙_}
+use mathlib.Core.Path.{_≡_, ap, _∙_}
 use mathlib.Core.List.{List}
-use Prim.Native.Nat.{ℕ, _+_, _*_, _^_, _≤_, _<_}
+use Prim.Native.Nat.{ℕ, _+_, _*_, _≤_}
 use lib.ListN.{length}
 use lib.Ieee.{Float}
-use Rattle.rows.specs.Rows.{part, put, length-part, part-cut}
+use Rattle.rows.specs.Rows.{part, put, length-part}
+use Rattle.rows.specs.Lent.{lent, returned, part-cut, returned-is}
 use Rattle.desk.specs.Channels.{channelsOf, length-channels}
 use Rattle.desk.specs.Sinks.{SinksSized, sinkRows, sinksOf}
 use Rattle.desk.specs.SinkLaws.{sinks-sized}
@@ -13,7 +14,6 @@ use Rattle.desk_mixes.specs.MixLaws.{mixes-sized}
 use Rattle.splitters.specs.Destinations.{Left, left}
 use Rattle.splitters.specs.Section.{Sized, splittersOf}
 use Rattle.splitters.specs.Laws.{sized-kept}
-use Rattle.desk_updates.specs.Lent.{lent, returned, returned-is}
 use Rattle.desk_updates.specs.DeskUpdate.{resourcesAt, mixRowsAt, sinkRowsAt, listRowsAt}
 
 -- ---- channel resources

@@ -1,4 +1,8 @@
 // Fields of a block of bytes, little-endian: readers, sections and writers. A field that reaches past the end reads 0.
+mod numbers;
+
+pub use numbers::least;
+pub use numbers::positive;
 ghost use mathlib.Core.Path.{_≡_};
 ghost use Prim.Native.Nat.{_+_, _≤_, _<_};
 ghost use lib.Dec.{leb};
@@ -7,7 +11,7 @@ ghost use lib.Ieee.{binary32};
 ghost use lib.ListN.{length};
 ghost use mir.Val.{toZ};
 ghost use mir.Syntax.{w16, w32};
-ghost use Rattle.fields.specs.Fields.{le, fieldAt, sectionOf, restOf, bytesOf};
+ghost use Rattle.fields.specs.Fields.{le, fieldAt, flagAt, sectionOf, restOf, bytesOf};
 ghost use Rattle.rows.specs.Rows.{put};
 
 // Whether w bytes from o on are inside n.
@@ -110,6 +114,13 @@ pub fn byte_at(d: &[u8], o: usize) -> u8
     ensures { λ r. ⌜ r ≡ fieldAt 1 (now (d .entry)) o ⌝ }
 {
     if inside(d.len(), o, 1) { d[o] } else { 0 }
+}
+
+// Whether the byte at o is not 0.
+pub fn flag_at(d: &[u8], o: usize) -> bool
+    ensures { λ r. ⌜ r ≡ flagAt (now (d .entry)) o ⌝ }
+{
+    byte_at(d, o) != 0
 }
 
 // A part of the input; empty where it reaches past the end.

@@ -1,7 +1,7 @@
 // mixer.rs `render_mixes`: the sub-mixes in their order, then the final mix's volume.
 ghost use mathlib.Core.Path.{_≡_};
 ghost use mathlib.Core.List.{map};
-ghost use Prim.Native.Nat.{ℕ, _*_, min, _≤_, _<_};
+ghost use Prim.Native.Nat.{ℕ, _*_, _≤_, _<_};
 ghost use lib.ListN.{length, getD};
 ghost use lib.Ieee.{binary32, mul};
 ghost use Rattle.desk_rows.specs.DeskRows.{Mixes, Lists};
@@ -55,16 +55,6 @@ fn scale(s: &mut [f32], v: f32)
     }
 }
 
-// The smaller of two.
-fn least(a: usize, b: usize) -> usize
-    ensures { λ r. ⌜ (r ≡ min a b) × (r ≤ b) ⌝ }
-{
-    if a <= b {
-        return a;
-    }
-    b
-}
-
 // The final mix's volume, on its buffers: they come first.
 fn final_volume(buffers: &mut [f32], n: usize, mixes: &[u32], volumes: &[f32], nm: usize)
     requires { ⌜ Mixes nm (now mixes) ⌝ ∗ ⌜ length (now volumes) ≡ nm * 577 ⌝ ∗ ⌜ n ≤ 256 ⌝ }
@@ -75,7 +65,7 @@ fn final_volume(buffers: &mut [f32], n: usize, mixes: &[u32], volumes: &[f32], n
         return;
     }
     let count = sub_mix::buffers_of(mixes, nm, 0) * n;
-    let k = least(count, buffers.len());
+    let k = fields::least(count, buffers.len());
     scale(&mut buffers[..k], v);
 }
 

@@ -1,4 +1,3 @@
 pub mod Playing
-pub mod Lent
 pub mod Channels
 pub mod Lengths

@@ -76,9 +76,81 @@ fn render_on(
     rounds
 }
 
-// A render: the rounds that its fetches took. The frames go to the front of a slice that has room for them. The mix buffers and the rows are made
-// once for all voices.
-pub fn render(
+// A render into mix buffers that are lent. The rows are made once for all voices.
+fn render_into(
+    p: Params,
+    base: u64,
+    memory: &[u8],
+    words: &mut [u32],
+    longs: &mut [u64],
+    floats: &mut [f32],
+    contexts: &mut [u16],
+    history: &mut [f32],
+    buffers: &mut [f32],
+    frames: &mut [f32],
+) -> u32
+    requires { ⌜ Playing p (renderOf p base (length (now memory))) (now memory) 0 (stateOf (now words) (now longs) (now floats) (now contexts) (now history)) ⌝ ∗ ⌜ 2 * p .«sample_count» ≤ length (now frames) ⌝ }
+    ensures { λ rounds. ⌜ rendered (stateOf (now (words .exit)) (now (longs .exit)) (now (floats .exit)) (now (contexts .exit)) (now (history .exit))) rounds (now (frames .exit))
+        ≡ renderedOn p (renderOf p base (length (now (memory .entry)))) (now (memory .entry)) (stateOf (now (words .entry)) (now (longs .entry)) (now (floats .entry)) (now (contexts .entry)) (now (history .entry))) (now (buffers .entry)) (now (frames .entry)) ⌝ }
+{
+    let mut src = [0.0f32; 4100];
+    let mut out = [0.0f32; 1536];
+    let mut row = [0.0f32; 256];
+    let silent = [0.0f32; 256];
+    let n = p.sample_count as usize;
+    let r = render_of(p, base, memory.len() as u64);
+    render_on(
+        p,
+        r,
+        memory,
+        words,
+        longs,
+        floats,
+        contexts,
+        history,
+        buffers,
+        &mut src,
+        &mut out,
+        &mut row[..n],
+        &silent,
+        frames,
+    )
+}
+
+// A render with room for few mix buffers: less to make silent.
+fn render_few(
+    p: Params,
+    base: u64,
+    memory: &[u8],
+    words: &mut [u32],
+    longs: &mut [u64],
+    floats: &mut [f32],
+    contexts: &mut [u16],
+    history: &mut [f32],
+    frames: &mut [f32],
+) -> u32
+    requires { ⌜ Playing p (renderOf p base (length (now memory))) (now memory) 0 (stateOf (now words) (now longs) (now floats) (now contexts) (now history)) ⌝ ∗ ⌜ 2 * p .«sample_count» ≤ length (now frames) ⌝ ∗ ⌜ p .«mix_buffers» * p .«sample_count» ≤ 6144 ⌝ }
+    ensures { λ rounds. ⌜ rendered (stateOf (now (words .exit)) (now (longs .exit)) (now (floats .exit)) (now (contexts .exit)) (now (history .exit))) rounds (now (frames .exit))
+        ≡ renderedBy p base (now (memory .entry)) (stateOf (now (words .entry)) (now (longs .entry)) (now (floats .entry)) (now (contexts .entry)) (now (history .entry))) (now (frames .entry)) ⌝ }
+{
+    let mut buffers = [0.0f32; 6144];
+    let total = p.mix_buffers as usize * p.sample_count as usize;
+    render_into(
+        p,
+        base,
+        memory,
+        words,
+        longs,
+        floats,
+        contexts,
+        history,
+        &mut buffers[..total],
+        frames,
+    )
+}
+
+// A render with room for all mix buffers that there can be.
+fn render_many(
     p: Params,
     base: u64,
     memory: &[u8],
@@ -94,16 +166,10 @@ pub fn render(
         ≡ renderedBy p base (now (memory .entry)) (stateOf (now (words .entry)) (now (longs .entry)) (now (floats .entry)) (now (contexts .entry)) (now (history .entry))) (now (frames .entry)) ⌝ }
 {
     let mut buffers = [0.0f32; 24576];
-    let mut src = [0.0f32; 4100];
-    let mut out = [0.0f32; 1536];
-    let mut row = [0.0f32; 256];
-    let silent = [0.0f32; 256];
-    let n = p.sample_count as usize;
-    let total = p.mix_buffers as usize * n;
-    let r = render_of(p, base, memory.len() as u64);
-    render_on(
+    let total = p.mix_buffers as usize * p.sample_count as usize;
+    render_into(
         p,
-        r,
+        base,
         memory,
         words,
         longs,
@@ -111,10 +177,48 @@ pub fn render(
         contexts,
         history,
         &mut buffers[..total],
-        &mut src,
-        &mut out,
-        &mut row[..n],
-        &silent,
+        frames,
+    )
+}
+
+// A render: the rounds that its fetches took. The frames go to the front of a slice that has room for them.
+pub fn render(
+    p: Params,
+    base: u64,
+    memory: &[u8],
+    words: &mut [u32],
+    longs: &mut [u64],
+    floats: &mut [f32],
+    contexts: &mut [u16],
+    history: &mut [f32],
+    frames: &mut [f32],
+) -> u32
+    requires { ⌜ Playing p (renderOf p base (length (now memory))) (now memory) 0 (stateOf (now words) (now longs) (now floats) (now contexts) (now history)) ⌝ ∗ ⌜ 2 * p .«sample_count» ≤ length (now frames) ⌝ }
+    ensures { λ rounds. ⌜ rendered (stateOf (now (words .exit)) (now (longs .exit)) (now (floats .exit)) (now (contexts .exit)) (now (history .exit))) rounds (now (frames .exit))
+        ≡ renderedBy p base (now (memory .entry)) (stateOf (now (words .entry)) (now (longs .entry)) (now (floats .entry)) (now (contexts .entry)) (now (history .entry))) (now (frames .entry)) ⌝ }
+{
+    if p.mix_buffers as usize * p.sample_count as usize <= 6144 {
+        return render_few(
+            p,
+            base,
+            memory,
+            words,
+            longs,
+            floats,
+            contexts,
+            history,
+            frames,
+        );
+    }
+    render_many(
+        p,
+        base,
+        memory,
+        words,
+        longs,
+        floats,
+        contexts,
+        history,
         frames,
     )
 }

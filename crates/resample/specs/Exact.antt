@@ -148,13 +148,19 @@ module _ (k : ℕ) (l : k ≤ 2 ^ 24) where
 abbrev pub AllSamples : List Float → Type 0
 AllSamples input = (j : ℕ) → j < length input → T (sample16 (getD input j nan))
 
-pub sample-exact : (points : List Float) (k : ℕ) → AllSamples points → k + 3 < length points → k ≤ 2 ^ 24 → sampleAt points one zero32 k ≡ getD points (k + 1) nan
+-- the cubic at 0 through the points from k on
+pub sample-at-zero : (points : List Float) (k : ℕ) → k + 3 < length points → k ≤ 2 ^ 24
+    → sampleAt points one zero32 k ≡ cubic (getD points k nan) (getD points (k + 1) nan) (getD points (k + 2) nan) (getD points (k + 3) nan) zero32
 unfolding sampleAt sampleFrom
-sample-exact points k all h l =
-    let w : (j : ℕ) → j < length points → Wholes (getD points j nan) = λ j b. wholes (getD points j nan) (and-r (fits binary32 (getD points j nan)) _ (all j b)) in
+sample-at-zero points k h l =
     ap (λ (p : Float). sampleFrom points p (indexAt points p)) (place-is k l)
     ∙ ap (sampleFrom points (at k l)) (index-is k l points h)
     ∙ ap (cubic (getD points k nan) (getD points (k + 1) nan) (getD points (k + 2) nan) (getD points (k + 3) nan)) (t-is k l)
+
+pub sample-exact : (points : List Float) (k : ℕ) → AllSamples points → k + 3 < length points → k ≤ 2 ^ 24 → sampleAt points one zero32 k ≡ getD points (k + 1) nan
+sample-exact points k all h l =
+    let w : (j : ℕ) → j < length points → Wholes (getD points j nan) = λ j b. wholes (getD points j nan) (and-r (fits binary32 (getD points j nan)) _ (all j b)) in
+    sample-at-zero points k h l
     ∙ cubic-zero (getD points k nan) (getD points (k + 1) nan) (getD points (k + 2) nan) (getD points (k + 3) nan)
     (w k (omega arith) .0) (w (k + 1) (omega arith) .0) (w (k + 2) (omega arith) .0) (w (k + 3) (omega arith) .0)
     (and-l (fits binary32 (getD points (k + 1) nan)) _ (all (k + 1) (omega arith))) (w (k + 1) (omega arith) .1)

@@ -2,8 +2,13 @@
 ghost use mathlib.Core.Path.{_≡_};
 ghost use mathlib.Core.List.{_++_};
 ghost use Prim.Native.Nat.{_<_, _≤_, _^_, min};
+ghost use lib.Dec.{T};
+ghost use lib.IntN.{pos};
+ghost use lib.Ieee.{binary32, ofInt, toUnsigned};
 ghost use lib.ListN.{length, drop};
-ghost use Rattle.resample.specs.Defs.{posAt, nextOf, neededOf, cubic, sampleAt, samples, fourth, resampled};
+ghost use Rattle.floats.specs.Defs.{one, minOf};
+ghost use Rattle.resample.specs.Defs.{posAt, nextOf, neededOf, cubic, sampleFrom, indexAt, samples, fourth, resampled};
+ghost use Rattle.resample.specs.InStep.{InStep};
 
 // How many samples a resampler keeps from one run to the next.
 pub const HISTORY: usize = 3;
@@ -38,31 +43,78 @@ fn fourth(a: f32, b: f32, c: f32) -> f32
     c
 }
 
-// The loop of `resample`, and the next fraction.
+// The outputs from four points or more, and the next fraction.
 fn fill(input: &[f32], out: &mut [f32], count: u32, ratio: f32, fraction: f32) -> f32
     requires { ⌜ (4 ≤ length (now input)) × (length (now input) < 2 ^ 32) ⌝ ∗ ⌜ count ≤ length (now out) ⌝ }
     ensures { λ r. ⌜ (r ≡ nextOf fraction ratio count)
         × (now (out .exit) ≡ samples (now (input .entry)) ratio fraction count ++ drop count (now (out .entry))) ⌝ }
 {
+    if in_step(input.len(), count, ratio, fraction) {
+        return fill_in_step(input, out, count, ratio, fraction);
+    }
+    fill_between(input, out, count, ratio, fraction)
+}
+
+// Whether every place is its output's own number: ratio 1, fraction 0, and points enough.
+fn in_step(points: usize, count: u32, ratio: f32, fraction: f32) -> bool
+    ensures { λ r. ⌜ (T r → InStep points count ratio fraction) ⌝ }
+{
+    if floats::to_bits(ratio) != 0x3f80_0000 {
+        return false;
+    }
+    if floats::to_bits(fraction) != 0 {
+        return false;
+    }
+    if 0x100_0000 < count {
+        return false;
+    }
+    (count as usize) + 3 <= points
+}
+
+// The loop where every place is its output's own number: output k is the cubic through points k to k + 3 at 0.
+fn fill_in_step(input: &[f32], out: &mut [f32], count: u32, ratio: f32, fraction: f32) -> f32
+    requires { ⌜ InStep (length (now input)) count ratio fraction ⌝ ∗ ⌜ count ≤ length (now out) ⌝ }
+    ensures { λ r. ⌜ (r ≡ nextOf fraction ratio count)
+        × (now (out .exit) ≡ samples (now (input .entry)) ratio fraction count ++ drop count (now (out .entry))) ⌝ }
+{
+    let n = count as usize;
+    let mut k = 0usize;
+    while k < n {
+        out[k] = interpolate(input[k], input[k + 1], input[k + 2], input[k + 3], 0.0);
+        k += 1usize;
+    }
+    0.0
+}
+
+// The loop for any places. Each place's whole part is looked for a ratio further than the last one's.
+fn fill_between(input: &[f32], out: &mut [f32], count: u32, ratio: f32, fraction: f32) -> f32
+    requires { ⌜ (4 ≤ length (now input)) × (length (now input) < 2 ^ 32) ⌝ ∗ ⌜ count ≤ length (now out) ⌝ }
+    ensures { λ r. ⌜ (r ≡ nextOf fraction ratio count)
+        × (now (out .exit) ≡ samples (now (input .entry)) ratio fraction count ++ drop count (now (out .entry))) ⌝ }
+{
+    let stride = floats::as_usize(ratio);
+    let mut near = 0usize;
     let mut k = 0u32;
     while k < count {
-        let v = sample(input, ratio, fraction, k);
+        let pos = place(fraction, ratio, k);
+        let whole = whole_near(pos, near);
+        let v = sample(input, pos, whole);
         out[k as usize] = v;
+        near = std::num::wrapping_add_usize(whole, stride);
         k += 1u32;
     }
     let end = place(fraction, ratio, count);
     end - floats::floor(end)
 }
 
-// The k-th output: the turn of the loop.
-fn sample(input: &[f32], ratio: f32, fraction: f32, k: u32) -> f32
-    requires { ⌜ (4 ≤ length (now input)) × (length (now input) < 2 ^ 32) ⌝ }
-    ensures { λ r. ⌜ r ≡ sampleAt (now (input .entry)) ratio fraction k ⌝ }
+// The output at a place with this whole part.
+fn sample(input: &[f32], pos: f32, whole: usize) -> f32
+    requires { ⌜ (4 ≤ length (now input)) × (length (now input) < 2 ^ 32) × (whole ≡ toUnsigned 64 pos) ⌝ }
+    ensures { λ r. ⌜ r ≡ sampleFrom (now (input .entry)) pos (indexAt (now (input .entry)) pos) ⌝ }
 {
     let last = input.len() - 4;
-    let pos = place(fraction, ratio, k);
-    let i = least(floats::as_usize(pos), last);
-    let t = floats::min(pos - std::num::nearest_u32_to_f32(i as u32), 1.0);
+    let i = least(whole, last);
+    let t = at_most_one(pos - as_f32(i as u32));
     interpolate(input[i], input[i + 1], input[i + 2], input[i + 3], t)
 }
 
@@ -70,7 +122,43 @@ fn sample(input: &[f32], ratio: f32, fraction: f32, k: u32) -> f32
 fn place(fraction: f32, ratio: f32, k: u32) -> f32
     ensures { λ r. ⌜ r ≡ posAt fraction ratio k ⌝ }
 {
-    fraction + ratio * std::num::nearest_u32_to_f32(k)
+    fraction + ratio * as_f32(k)
+}
+
+// Rust's `x as usize`, quick where that is near or near + 1.
+fn whole_near(x: f32, near: usize) -> usize
+    ensures { λ r. ⌜ r ≡ toUnsigned 64 x ⌝ }
+{
+    if near < 0xff_ffff {
+        let low = (near as u32) as f32;
+        if low <= x {
+            let high = low + 1.0;
+            if x < high {
+                return near;
+            }
+            if x < high + 1.0 {
+                return near + 1;
+            }
+        }
+    }
+    floats::as_usize(x)
+}
+
+// Rust's `n as f32`, quick where that is exact.
+fn as_f32(n: u32) -> f32
+    ensures { λ r. ⌜ r ≡ ofInt binary32 (pos n) ⌝ }
+{
+    if n <= 0x100_0000 {
+        return n as f32;
+    }
+    std::num::nearest_u32_to_f32(n)
+}
+
+// Rust's `x.min(1.0)`.
+fn at_most_one(x: f32) -> f32
+    ensures { λ r. ⌜ r ≡ minOf x one ⌝ }
+{
+    if x <= 1.0 { x } else { 1.0 }
 }
 
 // Rust's `a.min(b)` on usize.

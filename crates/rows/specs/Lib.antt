@@ -1,3 +1,5 @@
 pub mod Rows
+pub mod Lent
 pub mod Folds
+pub mod Loops
 pub mod Tables

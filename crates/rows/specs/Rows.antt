@@ -35,13 +35,6 @@ module _ {ℓ} {A : Type ℓ} where
       let b : k < length (drop at s) = simp length-drop (omega arith) in
       rw (add-one, take-suc (drop at s) k z b, getD-drop)
 
-  -- a row lent as `&s[a..a + w]`
-  pub part-cut : (s : List A) (a w : ℕ) → take (a + w - a) (drop a s) ≡ part w a s
-  unfolding part
-  part-cut s a w =
-      let e : a + w - a ≡ w = omega arith in
-      ap (λ (k : ℕ). take k (drop a s)) e
-
   part-append : (w b : ℕ) (p x : List A) → b + w ≤ length p → part w b (p ++ x) ≡ part w b p
   unfolding part
   part-append w b p x h =
@@ -141,11 +134,3 @@ module _ {ℓ} {A : Type ℓ} where
       ∙ ap (λ (x : List A). put x (at + n) q) e₁
       ∙ ap (λ (k : ℕ). put (put s at r) (at + k) q) (sym hr)
       ∙ put-put s at r q h′
-
-  -- a row lent as `&mut s[a..a + w]`, come back
-  pub put-back : (s : List A) (a w : ℕ) (r : List A) → length r ≡ w → a + w ≤ length s
-      → take a s ++ (r ++ drop (a + w - a) (drop a s)) ≡ put s a r
-  put-back s a w r hr h =
-      let e : a + (a + w - a) ≡ a + length r = omega arith in
-      let f : a + length r ≤ length s = omega arith in
-      ap (λ (x : List A). take a s ++ (r ++ x)) (drop-drop (a + w - a) a s ∙ ap (λ (k : ℕ). drop k s) e) ∙ sym (put-is s a r f)

@@ -6,12 +6,12 @@ use Rattle.adpcm.specs.Runs.{countFrom, holds}
 use Rattle.adpcm.specs.Step.{clampZ, signed4, stepOf as adpcmStep}
 use Rattle.calls.specs.Calls.{openCall, renderCall, updateCall}
 use Rattle.desk.specs.Channels.{channelRecord, channelStep, channelsOf}
-use Rattle.desk.specs.Records.{flagAt, floatAt}
+use Rattle.desk.specs.Records.{floatAt}
 use Rattle.desk.specs.Sinks.{deviceRow, isDevice, sinkFloatsIf, sinkPut, sinkRecord, sinkStep, sinkWordsIf, sinksOf}
 use Rattle.desk_mixes.specs.Mixes.{countsBefore, dirtyOnly, mixAct, mixBase, mixCount, mixFloats, mixFloatsIf, mixHead, mixId, mixPut, mixPutIf}
-use Rattle.desk_mixes.specs.Mixes.{mixRecord, mixRecords, mixStep, mixVolumes, mixWords, mixWordsIf, mixesOf, mixesRead, offsetStep, offsetsOf, positive}
+use Rattle.desk_mixes.specs.Mixes.{mixRecord, mixRecords, mixStep, mixVolumes, mixWords, mixWordsIf, mixesOf, mixesRead, offsetStep, offsetsOf}
 use Rattle.desk_render.specs.DeskRender.{framesBy, mixedBy}
-use Rattle.fields.specs.Fields.{bytesOf, fieldAt, le as leField, restOf, sectionOf}
+use Rattle.fields.specs.Fields.{bytesOf, fieldAt, flagAt, le as leField, positive, restOf, sectionOf}
 use Rattle.frames.specs.Frames.{downmixAt, downmixOf, firstFrom, framesOf, playsAt, sinkAt}
 use Rattle.gain.specs.Gain.{mixInto, mixed, rampOf, ramped, stepOf as gainStep}
 use Rattle.memory.specs.Memory.{readOf}
@@ -35,7 +35,7 @@ use Rattle.secrecy.specs.Declared.{inputSpans, reads}
 use Rattle.sink.specs.Sink.{factorsOf, frames, inputOf, leftOf, rightOf, sampleOf, side, sinkOf, toUnit}
 use Rattle.sound_rows.specs.SoundRow.{wordsOfContext}
 use Rattle.splitters.specs.Destinations.{destinationStep, destinationsFrom, newlyOf, storedFloats, storedWords, strideFrom, strideOf, usedOf, volumeOf, withFloats, withWords}
-use Rattle.splitters.specs.Lists.{countOf, entryOf, nextOf, positiveOf, splitterStep, splittersFrom, withList}
+use Rattle.splitters.specs.Lists.{countOf, entryOf, nextOf, splitterStep, splittersFrom, withList}
 use Rattle.splitters.specs.Section.{recordsFrom, recordsOf, roundedUp, splittersOf}
 use Rattle.splitters.specs.Walk.{steps}
 use Rattle.update_alike.specs.Routes.{routes}
@@ -62,7 +62,7 @@ unfolding coefficientsOf contextOf runFrom tookOf valueOf nibbleOf sizeOf countF
     renderedOn voicesRendered backOf effectsSection frontOf headerOf infoOf poolsOfInput replyOf restBytes wordsBytes zeros effectAt effectRow effectRows
     effectState granted poolRow poolWord poolsBytes heardOf statusAt statusOf voicesBytes listsWhole mixWhole mixesWhole sinksWhole rowsWithin within all every sum
     someChannel voiceWhole voiceWordsWhole voicesWhole inputSpans reads factorsOf frames inputOf leftOf rightOf sampleOf side sinkOf toUnit wordsOfContext
-    destinationStep destinationsFrom newlyOf storedFloats storedWords strideFrom strideOf usedOf volumeOf withFloats withWords countOf entryOf nextOf positiveOf
+    destinationStep destinationsFrom newlyOf storedFloats storedWords strideFrom strideOf usedOf volumeOf withFloats withWords countOf entryOf nextOf
     splitterStep splittersFrom withList recordsFrom recordsOf roundedUp splittersOf steps routes afterDesk afterVoices listsSize mixesAt voiceRowsIn withLists
     withMixes withResources withSinks withVoices setPlay flushSlot silentSound offsetsValid parseOf recorded renderVoice headOf topOf longsOfWave waveOf wordsOfWave
     bySplitter destinationSent entrySent listSent mixSends rampedRow sendsOf sent splitterSends taken toMix voicesOf lengthsRight rowsWhole wholeBy div isNan le mul

@@ -7,7 +7,7 @@ use native.Mathlib.Omega.{arith}
 use lib.ListN.{length, take, drop}
 use lib.Seq.{length-take-le}
 use lib.Ieee.{Float}
-use Rattle.rows.specs.Rows.{part-cut}
+use Rattle.rows.specs.Lent.{part-between}
 use Rattle.params.specs.declared.params.Params.{Params}
 use Rattle.params.specs.Sizes.{Allowed}
 use Rattle.state.specs.declared.Places.{Places}
@@ -42,10 +42,10 @@ listsLent at words = take (at .words - at .«list_words») (drop (at .«list_wor
 
 module _ {p : Params} {at : Places} (w : At p at) (words : List ℕ) where
   mixes-lent : mixesLent at words ≡ mixWordsIn p words
-  mixes-lent = rw (w .sink-words, w .mix-words) (part-cut words (mixWords p) (mixesOf p * 5))
+  mixes-lent = part-between words (mixWords p) (mixesOf p * 5) (w .mix-words) (w .sink-words)
 
   lists-lent : listsLent at words ≡ listWordsIn p words
-  lists-lent = rw (w .words, w .list-words) (part-cut words (listWords p) (p .splitters * 129 + p .«splitter_destinations» * 2))
+  lists-lent = part-between words (listWords p) (p .splitters * 129 + p .«splitter_destinations» * 2) (w .list-words) (w .words)
 
   pub mixes-whole : Mixes (mixesOf p) (mixWordsIn p words) → Mixes (at .mixes) (mixesLent at words)
   mixes-whole m = rw (mixes-lent, w .mixes) m

@@ -1,4 +1,3 @@
-pub mod Lent
 pub mod Sending
 pub mod Laws
 pub mod Routes

@@ -5,12 +5,12 @@ use Prim.Native.Nat.{ℕ, _+_, _*_, _≤_}
 use native.Mathlib.Omega.{arith}
 use lib.ListN.{length}
 use lib.Ieee.{Float}
-use Rattle.rows.specs.Rows.{part, put, part-cut, length-part, length-put, put-part, part-put-after}
+use Rattle.rows.specs.Rows.{part, put, length-part, length-put, put-part, part-put-after}
+use Rattle.rows.specs.Lent.{lent, returned, part-cut, returned-is}
 use Rattle.voice_sends.specs.Sending.{Ids, Rowed, rampedRows, Passing, passing, toMix, bySplitter, Sent, sendsOf}
 use Rattle.voice_sends.specs.Laws.{length-ramped-rows}
 use Rattle.voice_sends.specs.Sizes.{Sizes, to-mix-keeps, by-splitter-keeps}
 use Rattle.voice_sends.specs.Cases.{sends-by-splitter, sends-to-mix}
-use Rattle.sending.specs.Lent.{lent, returned, returned-is}
 use Rattle.sending.specs.Sending.{gainsAt, gainsBack, sentAt, sentBack}
 
 -- rows that are ramped are rows as long

@@ -8,12 +8,6 @@ use params::Params;
 use renderer::Lengths;
 use renderer::OpenAnswer;
 
-pub fn input() -> [u8; 65537]
-    ensures { λ r. ⌜ 65537 ≡ length r ⌝ }
-{
-    [0; 65537]
-}
-
 fn words() -> [u32; 1390]
     ensures { λ r. ⌜ 1390 ≡ length r ⌝ }
 {
@@ -109,7 +103,7 @@ fn open(
 {
     let opened = renderer::open(p, words, longs, floats, contexts, history);
     match opened {
-        OpenAnswer::Opened => crate::run::run(
+        OpenAnswer::Opened => session_turns::run(
             session::calls(input),
             session::call_count(input),
             session::memory(input),
@@ -122,8 +116,8 @@ fn open(
             reply,
             out,
         ),
-        OpenAnswer::Samples => crate::refuse(1, out),
-        OpenAnswer::Counts => crate::refuse(2, out),
-        OpenAnswer::Lengths => crate::refuse(3, out),
+        OpenAnswer::Samples => session_turns::refuse(1, out),
+        OpenAnswer::Counts => session_turns::refuse(2, out),
+        OpenAnswer::Lengths => session_turns::refuse(3, out),
     }
 }

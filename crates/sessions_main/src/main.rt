@@ -24,7 +24,7 @@ fn run_all(input: &[u8], out: &mut [u8])
 }
 
 fn main() {
-    let mut input = [0u8; 131072];
+    let mut input = [0u8; 196608];
     let n = io::read_full(0, &mut input);
     let mut out = io::large_buffer();
     run_all(&input[..n], &mut out);

@@ -1,6 +1,5 @@
 pub mod Fill
 pub mod Sound
-pub mod Parts
 pub mod Perform
 pub mod Channel
 pub mod Fused

@@ -4,7 +4,7 @@ use mathlib.Core.Bool.{Bool, cond}
 use mathlib.Core.List.{List, _∷_}
 use Prim.Native.Nat.{ℕ, _+_, _*_, min}
 use lib.Dec.{ltb, eqb}
-use Rattle.fields.specs.Fields.{fieldAt}
+use Rattle.fields.specs.Fields.{fieldAt, positive}
 use Rattle.rows.specs.Rows.{put}
 use Rattle.rows.specs.Tables.{table}
 use Rattle.splitters.specs.Walk.{walk}
@@ -16,13 +16,9 @@ splitterMagic = 0x49444e53
 abbrev pub destinationMagic : ℕ
 destinationMagic = 0x44444e53
 
--- the Rust's `.max(0)` of an i32, on its 32 bits
-unfoldable pub positiveOf : ℕ → ℕ
-positiveOf v = cond (ltb v 0x80000000) v 0
-
 -- entry k of the record at `at`
 unfoldable pub entryOf : List ℕ → ℕ → ℕ → ℕ
-entryOf d at k = positiveOf (fieldAt 4 d (at + 0x10 + k * 4))
+entryOf d at k = positive (fieldAt 4 d (at + 0x10 + k * 4))
 
 -- how many entries the record has: no more than the destinations
 unfoldable pub countOf : ℕ → List ℕ → ℕ → ℕ

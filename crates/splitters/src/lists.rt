@@ -1,26 +1,12 @@
 // The splitters' records: each gives a splitter its list of destinations.
 ghost use mathlib.Core.Path.{_≡_};
-ghost use Prim.Native.Nat.{_+_, _*_, _≤_, _<_, _^_, min};
+ghost use Prim.Native.Nat.{_+_, _*_, _≤_, _<_, _^_};
 ghost use lib.ListN.{length};
 ghost use Rattle.rows.specs.Rows.{put};
 ghost use Rattle.rows.specs.Tables.{table};
-ghost use Rattle.splitters.specs.Lists.{positiveOf, entryOf, withList, nextOf, lists, splitterStep, splittersFrom};
+ghost use Rattle.splitters.specs.Lists.{entryOf, withList, nextOf, lists, splitterStep, splittersFrom};
 use crate::DESTINATION_MAGIC;
 use crate::SPLITTER_MAGIC;
-
-// The Rust's `.max(0)` of an i32, on its 32 bits.
-fn positive(v: u32) -> u32
-    ensures { λ r. ⌜ r ≡ positiveOf v ⌝ }
-{
-    if v < 0x8000_0000 { v } else { 0 }
-}
-
-fn least(a: u32, b: usize) -> usize
-    ensures { λ r. ⌜ r ≡ min a b ⌝ }
-{
-    let x = a as usize;
-    if x < b { x } else { b }
-}
 
 // The n entries of the record at `at`, in place of as many words from `to` on.
 fn put_entries(d: &[u8], at: usize, n: usize, words: &mut [u32], to: usize)
@@ -29,7 +15,7 @@ fn put_entries(d: &[u8], at: usize, n: usize, words: &mut [u32], to: usize)
 {
     let mut k = 0;
     while k < n {
-        words[to + k] = positive(fields::u32_at(d, at + 0x10 + k * 4));
+        words[to + k] = fields::positive(fields::u32_at(d, at + 0x10 + k * 4));
         k += 1;
     }
 }
@@ -68,7 +54,7 @@ fn read_splitter(d: &[u8], at: usize, ns: usize, nd: usize, words: &mut [u32]) -
     requires { ⌜ (at < 2 ^ 63) × (nd ≤ 128) × (ns * 129 ≤ length (now words)) ⌝ }
     ensures { λ r. ⌜ (lists r (now (words .exit)) ≡ splitterStep ns nd (now (d .entry)) (lists at (now (words .entry)))) × (r ≤ at + 540) ⌝ }
 {
-    let n = least(fields::u32_at(d, at + 0xc), nd);
+    let n = fields::least(fields::u32_at(d, at + 0xc) as usize, nd);
     store_list(d, at, n, ns, words);
     next_place(d, at, n)
 }

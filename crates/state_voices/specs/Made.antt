@@ -1,11 +1,12 @@
 -- What the functions leave is what the definitions say. Assumes nothing.
 use mathlib.Core.Path.{_≡_, refl, ap, sym, subst, _∙_}
 use mathlib.Core.Bool.{Bool, true, false}
-use mathlib.Core.List.{List, _++_}
-use Prim.Native.Nat.{ℕ, _+_, _-_, _*_, _≤_}
+use mathlib.Core.List.{List}
+use Prim.Native.Nat.{ℕ, _+_, _*_, _≤_}
 use lib.Ieee.{Float}
-use lib.ListN.{length, take, drop}
-use Rattle.rows.specs.Rows.{part, put, length-part, part-cut, put-back}
+use lib.ListN.{length}
+use Rattle.rows.specs.Rows.{part, put, length-part}
+use Rattle.rows.specs.Lent.{lent, returned, part-cut, returned-is}
 use Rattle.params.specs.declared.params.Params.{Params}
 use Rattle.state.specs.State.{State, stateOf, resourceFloats, resourcesIn}
 use Rattle.voice.specs.declared.Voice.{Voice}
@@ -22,12 +23,11 @@ use Rattle.state_voices.specs.StateVoices.{voiceIn, putVoice, withFloats
 
 -- lent as `&mut floats[a..a + n * 48]`
 pub taken-back : {n : ℕ} {ids : List ℕ} → Ids n ids → (channels a : ℕ) (floats : List Float) {r : List Float} → channels ≤ 6 → a + n * 48 ≤ length floats
-    → r ≡ takenOver ids channels (take (a + n * 48 - a) (drop a floats))
-    → take a floats ++ (r ++ drop (a + n * 48 - a) (drop a floats)) ≡ put floats a (takenOver ids channels (part (n * 48) a floats))
+    → r ≡ takenOver ids channels (lent floats a (n * 48)) → returned floats a (n * 48) r ≡ put floats a (takenOver ids channels (part (n * 48) a floats))
 taken-back {n} {ids} p channels a floats {r} few fits e =
     let q = e ∙ ap (takenOver ids channels) (part-cut floats a (n * 48)) in
     let z = length-part (n * 48) a floats fits in
-    put-back floats a (n * 48) r (ap length q ∙ length-taken-over p channels _ few z ∙ z) fits ∙ ap (put floats a) q
+    returned-is floats a (n * 48) fits q (length-taken-over p channels _ few z ∙ z)
 
 -- by whether the voice is fresh
 module _ (p : Params) (v : Voice) (floats : List Float) where

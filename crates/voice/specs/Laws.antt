@@ -8,7 +8,7 @@ use borrow.Author.Tests.{le-leb, eq-eqb, ne-eqb}
 use lib.Dec.{eqb}
 use lib.ListN.{set}
 use Rattle.adpcm.specs.Places.{sizeOf}
-use Rattle.fields.specs.Fields.{fieldAt}
+use Rattle.fields.specs.Fields.{fieldAt, flagAt}
 use Rattle.voice.specs.declared.play.Play.{Play}
 use Rattle.voice.specs.declared.play.Play.the-variants.{Started, Paused}
 use Rattle.voice.specs.declared.wave.WaveBuffer.{WaveBuffer}
@@ -44,15 +44,15 @@ play-paused p (suc (suc n)) h₀ h₁ = refl
 
 -- ---- wave buffers
 
-pub parse-made : (w : List ℕ) {a z s e l t n x i j : ℕ} → a ≡ fieldAt 8 w 0x00 → z ≡ fieldAt 8 w 0x08 → s ≡ fieldAt 4 w 0x10 → e ≡ fieldAt 4 w 0x14
-    → l ≡ fieldAt 1 w 0x18 → t ≡ fieldAt 1 w 0x19 → n ≡ fieldAt 4 w 0x1c → x ≡ fieldAt 8 w 0x20 → i ≡ fieldAt 4 w 0x30 → j ≡ fieldAt 4 w 0x34
+pub parse-made : (w : List ℕ) {a z s e n x i j : ℕ} {l t : Bool} → a ≡ fieldAt 8 w 0x00 → z ≡ fieldAt 8 w 0x08 → s ≡ fieldAt 4 w 0x10 → e ≡ fieldAt 4 w 0x14
+    → l ≡ flagAt w 0x18 → t ≡ flagAt w 0x19 → n ≡ fieldAt 4 w 0x1c → x ≡ fieldAt 8 w 0x20 → i ≡ fieldAt 4 w 0x30 → j ≡ fieldAt 4 w 0x34
     → record {
       addr = a;
       size = z;
       start = s;
       end = e;
-      looping = not (eqb l 0);
-      «end_of_stream» = not (eqb t 0);
+      looping = l;
+      «end_of_stream» = t;
       «loop_count» = n;
       context = x;
       «loop_start» = i;
@@ -65,8 +65,8 @@ parse-made w ea ez es ee el et en ex ei ej = λ k. record {
   size = ez k;
   start = es k;
   end = ee k;
-  looping = not (eqb (el k) 0);
-  «end_of_stream» = not (eqb (et k) 0);
+  looping = el k;
+  «end_of_stream» = et k;
   «loop_count» = en k;
   context = ex k;
   «loop_start» = ei k;

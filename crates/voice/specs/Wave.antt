@@ -1,15 +1,11 @@
 -- Wave buffers (mixer.rs `WaveBuffer`): a record's fields, and whether its offsets lie within its size.
 use Prim.Native.Nat.{ℕ, _*_}
-use mathlib.Core.Bool.{Bool, true, cond, not, _&&_}
+use mathlib.Core.Bool.{Bool, true, cond, _&&_}
 use mathlib.Core.List.{List}
 use lib.Dec.{leb, eqb}
 use Rattle.adpcm.specs.Places.{sizeOf}
-use Rattle.fields.specs.Fields.{fieldAt}
+use Rattle.fields.specs.Fields.{fieldAt, flagAt}
 use Rattle.voice.specs.declared.wave.WaveBuffer.{WaveBuffer}
-
--- a byte of the record as a flag
-abbrev pub flagAt : List ℕ → ℕ → Bool
-flagAt d o = not (eqb (fieldAt 1 d o) 0)
 
 unfoldable pub parseOf : List ℕ → WaveBuffer
 parseOf w = record {

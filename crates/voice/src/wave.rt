@@ -27,8 +27,8 @@ impl WaveBuffer {
         let size = fields::u64_at(w, 0x08);
         let start = fields::u32_at(w, 0x10);
         let end = fields::u32_at(w, 0x14);
-        let looping = fields::byte_at(w, 0x18);
-        let end_of_stream = fields::byte_at(w, 0x19);
+        let looping = fields::flag_at(w, 0x18);
+        let end_of_stream = fields::flag_at(w, 0x19);
         let loop_count = fields::u32_at(w, 0x1c);
         let context = fields::u64_at(w, 0x20);
         let loop_start = fields::u32_at(w, 0x30);
@@ -38,8 +38,8 @@ impl WaveBuffer {
             size,
             start,
             end,
-            looping: looping != 0,
-            end_of_stream: end_of_stream != 0,
+            looping,
+            end_of_stream,
             loop_count,
             context,
             loop_start,

@@ -2,16 +2,16 @@
 use Prim.Native.Nat.{ℕ, _+_, _-_, _*_, _%_, _^_, min, max}
 use mathlib.Core.Bool.{Bool, true, false, cond, _&&_}
 use mathlib.Core.List.{List, [], _∷_}
-use lib.Dec.{leb, ltb, eqb}
+use lib.Dec.{leb, eqb}
 use lib.Ieee.{fin, ofBits, binary32}
 use lib.IntN.{pos}
 use lib.ListN.{getD}
-use Rattle.fields.specs.Fields.{fieldAt, sectionOf}
+use Rattle.fields.specs.Fields.{fieldAt, flagAt, positive, sectionOf}
 use Rattle.voice.specs.declared.play.Play.the-variants.{Stopped}
 use Rattle.voice.specs.declared.wave.WaveBuffer.{WaveBuffer}
 use Rattle.voice.specs.declared.Voice.{Voice}
 use Rattle.voice.specs.Play.{setPlay}
-use Rattle.voice.specs.Wave.{flagAt, parseOf, offsetsValid}
+use Rattle.voice.specs.Wave.{parseOf, offsetsValid}
 use Rattle.voice.specs.Queue.{noBuffer}
 
 -- the game uses the voice
@@ -63,10 +63,6 @@ renewed false v = v
 -- 1 to 6
 abbrev pub channelsOf : ℕ → ℕ
 channelsOf n = max 1 (min n 6)
-
--- the Rust's `i32.max(0)`, on the 32 bits
-unfoldable pub positive : ℕ → ℕ
-positive v = cond (ltb v 0x80000000) v 0
 
 -- a channel resource: of those past the last, the last
 unfoldable pub channelId : ℕ → ℕ → ℕ

@@ -22,14 +22,14 @@ use voice::WaveBuffer;
 pub fn record_used(p: &[u8]) -> bool
     ensures { λ r. ⌜ r ≡ recordUsed (now (p .entry)) ⌝ }
 {
-    byte_at(p, 0x09) != 0
+    fields::flag_at(p, 0x09)
 }
 
 // Whether the game has just taken the voice.
 pub fn record_new(p: &[u8]) -> bool
     ensures { λ r. ⌜ r ≡ recordNew (now (p .entry)) ⌝ }
 {
-    byte_at(p, 0x08) != 0
+    fields::flag_at(p, 0x08)
 }
 
 // A voice that has played nothing.

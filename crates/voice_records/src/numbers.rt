@@ -1,7 +1,7 @@
 // Numbers of a voice's record that are not taken as they stand.
 ghost use mathlib.Core.Path.{_≡_};
 ghost use Prim.Native.Nat.{_<_};
-ghost use Rattle.voice_records.specs.Record.{channelsOf, positive, channelId, idAt, idsOf, splitterOf, flushOf, decodingOf};
+ghost use Rattle.voice_records.specs.Record.{channelsOf, channelId, idAt, idsOf, splitterOf, flushOf, decodingOf};
 use fields::byte_at;
 use fields::u16_at;
 use fields::u32_at;
@@ -19,13 +19,6 @@ pub fn channels_of(n: u32) -> u32
     n
 }
 
-// The Rust's `i32.max(0)`, on the 32 bits.
-fn not_negative(v: u32) -> u32
-    ensures { λ r. ⌜ r ≡ positive v ⌝ }
-{
-    if v < 0x8000_0000 { v } else { 0 }
-}
-
 // A channel resource: of those past the last, the last.
 fn channel_id(count: u32, v: u32) -> u32
     ensures { λ r. ⌜ r ≡ channelId count v ⌝ }
@@ -33,7 +26,7 @@ fn channel_id(count: u32, v: u32) -> u32
     if count == 0 {
         return 0;
     }
-    let id = not_negative(v);
+    let id = fields::positive(v);
     if id < count { id } else { count - 1 }
 }
 

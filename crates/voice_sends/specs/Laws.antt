@@ -14,7 +14,7 @@ use Rattle.gain.specs.Gain.{rampOf}
 use Rattle.gain.specs.Laws.{length-ramp}
 use Rattle.desk_rows.specs.DeskRows.{configuredOf, destinationMix}
 use Rattle.voice_sends.specs.Sending.{Ids, rampedRow, rampedRows, taken, takenOver}
-use Rattle.voice_sends.specs.Turns.{upTo-keeps}
+use Rattle.rows.specs.Loops.{upTo-keeps}
 
 -- row c of a voice's rows is inside
 pub row-inside : (n : ℕ) {channels c : ℕ} (out : List Float) → c < channels → channels * n ≤ length out → c * n + n ≤ length out

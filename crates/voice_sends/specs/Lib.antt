@@ -1,5 +1,4 @@
 pub mod Sending
-pub mod Turns
 pub mod Strides
 pub mod Laws
 pub mod Sizes

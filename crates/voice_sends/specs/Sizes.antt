@@ -11,7 +11,7 @@ use Rattle.sends.specs.Sends.{length-spread}
 use Rattle.desk_rows.specs.DeskRows.{configuredOf, destinationMix, mixOffset, mixBuffers, listLength, listEntry}
 use Rattle.voice_sends.specs.Sending.{Ids, Passing, passing, sent, mixSends, toMix, destinationSent, entrySent, listSent, splitterSends, bySplitter, Sent, withResources, withDestinations, sendsOf}
 use Rattle.voice_sends.specs.Laws.{taken-keeps, and-left, configured-inside}
-use Rattle.voice_sends.specs.Turns.{upTo-keeps}
+use Rattle.rows.specs.Loops.{upTo-keeps}
 
 pub record Sizes (nb ng : ℕ) (st : Passing) : Type 0 where
   pub buffers : length (st .buffers) ≡ nb

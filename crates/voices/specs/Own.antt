@@ -8,13 +8,14 @@ use lib.Ieee.{Float}
 use lib.ListN.{length, set, length-set}
 use Rattle.rows.specs.Rows.{part, put, length-part}
 use Rattle.rows.specs.Folds.{RowStep, upTo}
+use Rattle.rows.specs.Loops.{upTo-keeps}
 use Rattle.voice.specs.declared.Voice.{Voice}
 use Rattle.voice.specs.Sound.{silentSound}
 use Rattle.voice_rows.specs.VoiceRow.{voiceOf, wordsOf, longsOf, floatsOf, length-words, length-longs, length-floats}
 use Rattle.sound_rows.specs.SoundRow.{contextsOf, historyOf, length-contexts}
 use Rattle.voice_records.specs.Record.{recordUsed, recordNew, recorded}
 use Rattle.voices.specs.Voices.{VoiceRows, VoicesSized, voiceAt, recordedAt, recordAt, recordedRows, unusedRows, stepBy, voiceStep, voicesOf}
-use Rattle.voices.specs.RowLaws.{set-row, length-kept, put-kept, from-zero, length-zero, left-zero, done-zero}
+use Rattle.voices.specs.RowLaws.{set-row, length-kept, put-kept, from-zero, length-step, left-zero, done-zero}
 
 length-silence : length (historyOf silentSound) ≡ 18
 unfolding historyOf silentSound
@@ -123,19 +124,19 @@ module _ (revision n : ℕ) (d : List ℕ) where
       (λ k st h. by-history revision n (recordAt d k) k st (recordUsed (recordAt d k)) ∙ put-kept (renews k) 18 (k * 18) _ (st .history) h)
 
   -- the lengths are kept
-  pub upTo-sized : (st : VoiceRows) → VoicesSized n st → (k : ℕ) → k ≤ n → VoicesSized n (upTo step k st)
-  upTo-sized st h k b = record {
+  pub step-sized : (k : ℕ) (st : VoiceRows) → k < n → VoicesSized n st → VoicesSized n (step k st)
+  step-sized k st b h = record {
     few = h .few;
-    words = length-zero words-step n st (h .words) k b;
-    longs = length-zero longs-step n st (h .longs) k b;
-    floats = length-zero floats-step n st (h .floats) k b;
-    contexts = length-zero contexts-step n st (h .contexts) k b;
-    history = length-zero history-step n st (h .history) k b;
+    words = length-step words-step n k st b (h .words);
+    longs = length-step longs-step n k st b (h .longs);
+    floats = length-step floats-step n k st b (h .floats);
+    contexts = length-step contexts-step n k st b (h .contexts);
+    history = length-step history-step n k st b (h .history);
   }
 
   pub voices-sized : (st : VoiceRows) → VoicesSized n st → VoicesSized n (voicesOf revision d n st)
   unfolding voicesOf
-  voices-sized st h = upTo-sized st h n (omega arith)
+  voices-sized st h = upTo-keeps (VoicesSized n) step n step-sized n st (omega arith) h
 
   -- ---- rows before and after all steps, in terms of those at entry
 

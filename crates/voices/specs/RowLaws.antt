@@ -7,8 +7,8 @@ use mathlib.Core.List.{List, _++_}
 use mathlib.Core.Path.{_≡_, refl, ap, sym, _∙_}
 use lib.ListN.{length, set, take, drop, length-set}
 use lib.Seq.{take-set-le, take-set-lt, drop-set-lt, drop-set-add}
-use Rattle.rows.specs.Rows.{part, put, length-part, put-part}
-use Rattle.rows.specs.Folds.{RowStep, upTo, length-upTo, row-left, row-done}
+use Rattle.rows.specs.Rows.{part, put, length-part, length-put, put-part}
+use Rattle.rows.specs.Folds.{RowStep, upTo, row-fits, length-upTo, row-left, row-done}
 
 -- ---- a row whose first element is stored
 
@@ -56,6 +56,13 @@ from-zero {xs = xs} {w = w} {row = row} wide puts = record {
   wide = λ k st h. wide k st (rw zero-add at h);
   puts = λ k st h. puts k st (rw zero-add at h) ∙ ap (λ (a : ℕ). put (xs st) a (row k st)) (sym (zero-add (k * w)));
 }
+
+-- one step keeps the length
+pub length-step : {S A : Type 0} {step : ℕ → S → S} {xs : S → List A} {w : ℕ} {row : ℕ → S → List A} → RowStep step xs 0 w row
+    → (n k : ℕ) (st : S) → k < n → length (xs st) ≡ n * w → length (xs (step k st)) ≡ n * w
+length-step {xs = xs} {w = w} {row = row} r n k st b size =
+    let fits : 0 + k * w + w ≤ length (xs st) = row-fits 0 w k n (xs st) b (omega (arith, size)) in
+    ap length (r .puts k st fits) ∙ length-put (xs st) (0 + k * w) (row k st) (rw (r .wide k st fits) fits) ∙ size
 
 module _ {S A : Type 0} {step : ℕ → S → S} {xs : S → List A} {w : ℕ} {row : ℕ → S → List A} (r : RowStep step xs 0 w row)
     (n : ℕ) (st : S) (size : length (xs st) ≡ n * w) where

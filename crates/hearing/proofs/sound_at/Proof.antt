@@ -1,7 +1,7 @@
 -- `hearing::sound_at` meets its contract: the parts lent are the rows of voice k. Assumes nothing.
 use Prim.Native.Nat.{_*_}
 use mathlib.Core.Path.{_∙_}
-use Rattle.rows.specs.Rows.{part-cut}
+use Rattle.rows.specs.Lent.{part-cut}
 use Rattle.sound_rows.specs.SoundRow.{soundOf}
 use Rattle.hearing.specs.Hearing.{soundIn}
 use borrow.Author.Needs.{needs}

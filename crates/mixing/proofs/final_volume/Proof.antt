@@ -20,13 +20,13 @@ mul-count c =
     omega arith
 
 slice-aggregate-scale : tie.Need-slice-aggregate-scale
-slice-aggregate-scale c = sym (length-take-le _ _ (c .before .least .ensures .1))
+slice-aggregate-scale c = sym (length-take-le _ _ (omega (arith, c .before .least .ensures)))
 
 returns-2 : tie.Need-returns-2
 unfolding ofBits
 returns-2 c =
     let least = c .before .before .before .before in
-    final-from _ _ _ _ (least .before .before .if1 .left) (least .before .buffers-of .ensures .0) (least .least .ensures .0) (c .before .before .scale .ensures)
+    final-from _ _ _ _ (least .before .before .if1 .left) (least .before .buffers-of .ensures .0) (least .least .ensures) (c .before .before .scale .ensures)
 
 pub final-volume-spec : {M : Type 1} → statement M
 final-volume-spec =

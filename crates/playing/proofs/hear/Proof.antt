@@ -4,7 +4,7 @@ use native.Mathlib.Omega.{arith}
 use native.Mathlib.Nat.{mul-le-mul}
 use borrow.Author.Needs.{needs}
 use Rattle.resample.specs.Laws.{length-resampled}
-use Rattle.playing.specs.Lent.{row-back}
+use Rattle.rows.specs.Lent.{front-returned}
 use Rattle.playing.proofs.hear.Statement.{statement}
 use Rattle.playing.proofs.hear.Tie as tie
 
@@ -41,7 +41,8 @@ returns : tie.Need-returns
 returns c =
     let s = c .before .before .before .before .before .before in
     let a = s .args in
-    row-back (a .c * a .n) (a .n) (a .out .now) _ (length-resampled (a .row .now) (a .ratio) (a .fraction) (a .n)) (s .pre .1 .2) (c .before .before .resample .ensures .1)
+    let long = length-resampled (a .row .now) (a .ratio) (a .fraction) (a .n) in
+    front-returned (a .out .now) (a .c * a .n) (omega (arith, s .pre .1 .2)) (a .n) _ long (s .pre .1 .2) (c .before .before .resample .ensures .1)
 
 pub hear-spec : {M : Type 1} → statement M
 hear-spec =

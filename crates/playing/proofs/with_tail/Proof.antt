@@ -1,10 +1,10 @@
 -- `playing::with_tail` meets its contract: the three from the last place but two on are copied in. Assumes nothing.
-use Prim.Native.Nat.{_*_}
-use mathlib.Core.Path.{sym, ap, _∙_}
+use Prim.Native.Nat.{_-_, _*_}
+use mathlib.Core.Path.{refl, sym, ap, _∙_}
 use native.Mathlib.Omega.{arith}
-use lib.ListN.{length-map}
+use lib.ListN.{length, length-map}
 use Rattle.rows.specs.Rows.{put}
-use Rattle.playing.specs.Lent.{tail-is}
+use Rattle.rows.specs.Lent.{part-between}
 use borrow.Author.Needs.{needs}
 use Rattle.playing.proofs.with_tail.Statement.{statement}
 use Rattle.playing.proofs.with_tail.Tie as tie
@@ -42,7 +42,7 @@ returns : tie.Need-returns
 returns c =
     let s = c .before .before .before .before .before .before in
     let a = s .args in
-    c .before .copy-in-f32 .ensures ∙ ap (put (a .h .samples) (a .c * 3)) (tail-is (a .row .now) (s .pre .1))
+    c .before .copy-in-f32 .ensures ∙ ap (put (a .h .samples) (a .c * 3)) (part-between (a .row .now) (length (a .row .now) - 3) 3 refl (omega (arith, s .pre .1)))
 
 pub with-tail-spec : {M : Type 1} → statement M
 with-tail-spec =

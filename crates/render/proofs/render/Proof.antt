@@ -1,72 +1,28 @@
--- `render::render` meets its contract: what is lent is silent, and long enough. Assumes nothing.
-use mathlib.Core.Path.{sym, subst, _∙_}
-use Prim.Native.Nat.{_*_, _≤_}
-use native.Mathlib.Nat.{mul-le-mul}
+-- `render::render` meets its contract: either way the mix buffers are silent. Assumes nothing.
 use native.Mathlib.Omega.{arith}
-use lib.Ieee.{ofBits, binary32}
-use lib.ListN.{length, replicate, length-replicate}
-use lib.Seq.{length-take-le}
 use borrow.Author.Needs.{needs}
-use Rattle.state.specs.State.{State, stateOf}
-use Rattle.turn.specs.declared.Render.{Render}
-use Rattle.render.specs.Render.{Playing, renderedOn, renderedBy}
-use Rattle.render.specs.Laws.{take-replicate, silent}
+use Rattle.render.specs.Blank.{room}
 use Rattle.render.proofs.render.Statement.{statement}
 use Rattle.render.proofs.render.Tie as tie
 
--- the state that the call was given
-abbrev given : tie.Start → State
-given c = stateOf (c .args .words .now) (c .args .longs .now) (c .args .floats .now) (c .args .contexts .now) (c .args .history .now)
+mul-if1 : tie.Need-mul-if1
+mul-if1 c = omega (arith, room (c .before .before .before .before .before .before .before .before .before .pre .0))
 
--- there is room for all mix buffers
-room : (c : tie.Start) → c .args .p .«mix_buffers» * c .args .p .«sample_count» ≤ 24576
-room c = mul-le-mul (c .pre .0 .desk .allowed .mix-buffers) (c .pre .0 .desk .allowed .samples)
-
-mul-total : tie.Need-mul-total
-mul-total c = omega (arith, room (c .before .before .before .before .before .before .before .before .before))
-
-array-borrow-prefix-buffers : tie.Need-array-borrow-prefix-buffers
-array-borrow-prefix-buffers c = room (c .before .before .before .before .before .before .before .before .before .before .before .before .before .before .before)
-
-slice-aggregate-render-on : tie.Need-slice-aggregate-render-on
-slice-aggregate-render-on c =
+render-few-requires : tie.Need-render-few-requires
+render-few-requires c κs =
     let start = c .before .before .before .before .before .before .before .before .before .before .before .before .before .before .before .before in
-    sym (length-take-le (start .args .p .«mix_buffers» * start .args .p .«sample_count») (replicate 24576 (ofBits binary32 0)) (room start))
-
-array-borrow-prefix-row : tie.Need-array-borrow-prefix-row
-array-borrow-prefix-row c = c .before .before .before .before .before .before .before .before .before .before .before .before .before .before .before .before .before .before .pre .0 .desk .allowed .samples
-
-slice-aggregate-render-on-4 : tie.Need-slice-aggregate-render-on-4
-slice-aggregate-render-on-4 c =
-    let start = c .before .before .before .before .before .before .before .before .before .before .before .before .before .before .before .before .before .before .before in
-    sym (length-take-le (start .args .p .«sample_count») (replicate 256 (ofBits binary32 0)) (start .pre .0 .desk .allowed .samples))
-
-render-on-requires : tie.Need-render-on-requires
-unfolding ofBits
-render-on-requires c κs =
-    let start = c .before .before .before .before .before .before .before .before .before .before .before .before .before .before .before .before .before .before .before .before .before in
-    let a = start .args in
-    let few = start .pre .0 .desk .allowed .samples in (
-      subst (λ (r : Render). Playing (a .p) r (a .memory .now) 0 (given start)) (sym (c .before .before .before .before .before .before .before .before .before .before .before .render-of .ensures)) (start .pre .0),
-      (
-        record { row = omega (arith, length-replicate 4100 (ofBits binary32 0)); rows = omega (arith, few, length-replicate 1536 (ofBits binary32 0)) },
-        (
-          length-take-le (a .p .«sample_count») (replicate 256 (ofBits binary32 0)) few,
-          (
-            silent (a .p .«sample_count») 256 few,
-            start .pre .1,
-          ),
-        ),
-      ),
-    )
+    (start .pre .0, (start .pre .1, c .before .before .before .before .before .before .if1 .taken))
 
 returns : tie.Need-returns
-unfolding ofBits renderedBy
-returns c =
-    let start = c .before .before .before .before .before .before .before .before .before .before .before .before .before .before .before .before .before .before .before .before .before .before .before .before .before .before .before .before .before .before .before .before .before .before .before .before .before .before in
-    let a = start .args in
-    c .before .before .before .before .before .before .before .before .before .before .before .before .before .before .before .before .render-on .ensures
-    ∙ (λ i. renderedOn (a .p) (c .before .before .before .before .before .before .before .before .before .before .before .before .before .before .before .before .before .before .before .before .before .before .before .before .before .before .before .before .render-of .ensures i) (a .memory .now) (given start) (take-replicate (a .p .«mix_buffers» * a .p .«sample_count») 24576 (ofBits binary32 0) (room start) i) (a .frames .now))
+returns c = c .before .before .before .before .before .before .before .before .before .before .before .before .render-few .ensures
+
+render-many-requires : tie.Need-render-many-requires
+render-many-requires c κs =
+    let start = c .before .before .before .before .before .before .before .before .before .before .before .before .before .before .before .before in
+    (start .pre .0, start .pre .1)
+
+returns-2 : tie.Need-returns-2
+returns-2 c = c .before .before .before .before .before .before .before .before .before .before .before .before .render-many .ensures
 
 pub render-spec : {M : Type 1} → statement M
 render-spec =
@@ -74,20 +30,20 @@ render-spec =
     (tie.spec
     (λ c. search needs)
     (λ c. search needs)
-    mul-total
-    (λ c κs. search needs)
-    array-borrow-prefix-buffers
-    slice-aggregate-render-on
-    (λ c. search needs)
-    (λ c. search needs)
-    array-borrow-prefix-row
-    slice-aggregate-render-on-4
-    (λ c. search needs)
-    render-on-requires
+    mul-if1
+    render-few-requires
     (λ c. search needs)
     (λ c. search needs)
     (λ c. search needs)
     (λ c. search needs)
     (λ c. search needs)
     (λ c. search needs)
-    returns)
+    returns
+    render-many-requires
+    (λ c. search needs)
+    (λ c. search needs)
+    (λ c. search needs)
+    (λ c. search needs)
+    (λ c. search needs)
+    (λ c. search needs)
+    returns-2)

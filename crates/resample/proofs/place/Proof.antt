@@ -4,12 +4,12 @@ use Rattle.resample.specs.Defs.{posAt}
 use Rattle.resample.proofs.place.Statement.{statement}
 use Rattle.resample.proofs.place.Tie as tie
 
-nearest-u32-to-f32-requires : tie.Need-nearest-u32-to-f32-requires
-nearest-u32-to-f32-requires c κs = search needs
+as-f32-requires : tie.Need-as-f32-requires
+as-f32-requires c κs = search needs
 
 returns : tie.Need-returns
 unfolding posAt
 returns c = cc
 
 pub place-spec : {M : Type 1} → statement M
-place-spec = tie.close (tie.spec nearest-u32-to-f32-requires returns)
+place-spec = tie.close (tie.spec as-f32-requires returns)

@@ -5,32 +5,26 @@ use mathlib.Core.List.{List}
 use Prim.Native.Nat.{ℕ, _+_, _-_, min}
 use lib.IntN.{pos}
 use lib.ListN.{length, getD}
-use lib.Ieee.{Float, nan, binary32, sub, ofInt, toUnsigned, ofBits}
+use lib.Ieee.{Float, nan, binary32, sub, ofInt, toUnsigned}
 use Rattle.floats.specs.Defs.{one, minOf}
-use Rattle.resample.specs.Defs.{posAt, cubic, sampleAt}
+use Rattle.resample.specs.Defs.{cubic, sampleFrom, indexAt}
 use Rattle.resample.proofs.sample.Statement.{statement}
 use Rattle.resample.proofs.sample.Tie as tie
 
 sub-last : tie.Need-sub-last
 sub-last c = search needs
 
-place-requires : tie.Need-place-requires
-place-requires c κs = search needs
-
-as-usize-requires : tie.Need-as-usize-requires
-as-usize-requires c κs = search needs
-
 least-requires : tie.Need-least-requires
 least-requires c κs = search needs
 
-cast-nearest-u32-to-f32 : tie.Need-cast-nearest-u32-to-f32
-cast-nearest-u32-to-f32 c = search needs
+cast-as-f32 : tie.Need-cast-as-f32
+cast-as-f32 c = search needs
 
-nearest-u32-to-f32-requires : tie.Need-nearest-u32-to-f32-requires
-nearest-u32-to-f32-requires c κs = search needs
+as-f32-requires : tie.Need-as-f32-requires
+as-f32-requires c κs = search needs
 
-min-requires : tie.Need-min-requires
-min-requires c κs = search needs
+at-most-one-requires : tie.Need-at-most-one-requires
+at-most-one-requires c κs = search needs
 
 mul-interpolate : tie.Need-mul-interpolate
 mul-interpolate c = search needs
@@ -69,35 +63,30 @@ interpolate-requires : tie.Need-interpolate-requires
 interpolate-requires c κs = search needs
 
 -- what the calls give, one after the other, is the output
-steps : (points : List Float) (ratio fraction : Float) (k : ℕ) (place whole t r : Float) (n i : ℕ)
-    → place ≡ posAt fraction ratio k
+steps : (points : List Float) (place whole t r : Float) (n i : ℕ)
     → n ≡ toUnsigned 64 place
     → i ≡ min n (length points - 4)
     → whole ≡ ofInt binary32 (pos i)
     → t ≡ minOf (sub binary32 place whole) one
     → r ≡ cubic (getD points i nan) (getD points (i + 1) nan) (getD points (i + 2) nan) (getD points (i + 3) nan) t
-    → r ≡ sampleAt points ratio fraction k
-unfolding sampleAt
-steps points ratio fraction k place whole t r n i a b d e f g = cc
+    → r ≡ sampleFrom points place (indexAt points place)
+unfolding sampleFrom
+steps points place whole t r n i b d e f g = cc
 
 returns : tie.Need-returns
-unfolding ofBits
 returns c =
     let end = c .before .before .before .before .before in
-    let at = end .before .before .before .before in
-    steps _ _ _ _ _ _ _ _ _ _ (at .place .ensures) (end .before .before .before .as-usize .ensures) (end .before .before .least .ensures) (end .before .nearest-u32-to-f32 .ensures) (end .min .ensures) (c .interpolate .ensures)
+    steps _ _ _ _ _ _ _ (end .before .before .before .before .pre .2) (end .before .before .least .ensures) (end .before .as-f32 .ensures) (end .at-most-one .ensures) (c .interpolate .ensures)
 
 pub sample-spec : {M : Type 1} → statement M
 sample-spec =
     tie.close
     (tie.spec
     sub-last
-    place-requires
-    as-usize-requires
     least-requires
-    cast-nearest-u32-to-f32
-    nearest-u32-to-f32-requires
-    min-requires
+    cast-as-f32
+    as-f32-requires
+    at-most-one-requires
     mul-interpolate
     shared-slice-read-interpolate
     add-interpolate

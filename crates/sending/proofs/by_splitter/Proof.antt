@@ -1,6 +1,6 @@
 -- `sending::by_splitter` meets its contract: the destinations that are lent come back in their place. Assumes nothing.
 use borrow.Author.Needs.{needs}
-use Rattle.sending.specs.Lent.{length-lent}
+use Rattle.rows.specs.Lent.{length-lent}
 use Rattle.sending.specs.Routes.{by-splitter-back}
 use Rattle.sending.proofs.by_splitter.Statement.{statement}
 use Rattle.sending.proofs.by_splitter.Tie as tie

@@ -1,6 +1,6 @@
 -- `sending::to_mix` meets its contract: the resources that are lent come back in their place. Assumes nothing.
 use borrow.Author.Needs.{needs}
-use Rattle.sending.specs.Lent.{length-lent}
+use Rattle.rows.specs.Lent.{length-lent}
 use Rattle.sending.specs.Routes.{to-mix-back}
 use Rattle.sending.proofs.to_mix.Statement.{statement}
 use Rattle.sending.proofs.to_mix.Tie as tie

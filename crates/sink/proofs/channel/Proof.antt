@@ -6,7 +6,7 @@ use native.Mathlib.Omega.{arith}
 use borrow.Author.Needs.{needs}
 use borrow.Author.Tests.{le-leb, lt-leb}
 use lib.Seq.{length-take-le}
-use Rattle.rows.specs.Rows.{part-cut}
+use Rattle.rows.specs.Lent.{part-cut}
 use Rattle.sink.specs.Sink.{rowOr}
 use Rattle.sink.proofs.channel.Statement.{statement}
 use Rattle.sink.proofs.channel.Tie as tie

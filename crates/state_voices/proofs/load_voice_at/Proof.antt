@@ -1,7 +1,7 @@
 -- `state_voices::load_voice_at` meets its contract: the parts lent are the rows of voice k. Assumes nothing.
 use Prim.Native.Nat.{_+_, _*_}
 use mathlib.Core.Path.{_∙_}
-use Rattle.rows.specs.Rows.{part-cut}
+use Rattle.rows.specs.Lent.{part-cut}
 use Rattle.voice_rows.specs.VoiceRow.{voiceOf}
 use Rattle.state_voices.specs.StateVoices.{voiceOn}
 use borrow.Author.Needs.{needs}

@@ -3,9 +3,8 @@ use mathlib.Core.Path.{_∙_}
 use Prim.Native.Nat.{_+_, _*_}
 use native.Mathlib.Omega.{arith}
 use borrow.Author.Needs.{needs}
-use Rattle.rows.specs.Rows.{part-cut}
+use Rattle.rows.specs.Lent.{part-cut, length-lent}
 use Rattle.sub_mix.specs.SubMix.{mixVolume, sendRow, sendBuffer}
-use Rattle.sub_mix.proofs.Cut.{length-cut}
 use Rattle.sub_mix.proofs.send_buffer.Statement.{statement}
 use Rattle.sub_mix.proofs.send_buffer.Tie as tie
 
@@ -16,7 +15,7 @@ send-row-requires c κs =
     let a = start .args in
     let p = start .pre .1 in (
       start .pre .0,
-      ((p .1 .0 .1, p .1 .0 .2), (omega (arith, row .offset-of .ensures .1), p .1 .1 .1, length-cut (a .volumes .now) (a .m * 577 + 1 + a .i * 24) 24 (omega (arith, p)))),
+      ((p .1 .0 .1, p .1 .0 .2), (omega (arith, row .offset-of .ensures .1), p .1 .1 .1, length-lent (a .volumes .now) (a .m * 577 + 1 + a .i * 24) 24 (omega (arith, p)))),
     )
 
 returns : tie.Need-returns

@@ -2,9 +2,8 @@
 use mathlib.Core.Path.{_∙_}
 use Prim.Native.Nat.{_*_}
 use borrow.Author.Needs.{needs}
-use Rattle.rows.specs.Rows.{part-cut}
+use Rattle.rows.specs.Lent.{part-cut, length-lent}
 use Rattle.sub_mix.specs.SubMix.{mixVolume, sendRow}
-use Rattle.sub_mix.proofs.Cut.{length-cut}
 use Rattle.sub_mix.proofs.send_destination.Statement.{statement}
 use Rattle.sub_mix.proofs.send_destination.Tie as tie
 
@@ -14,7 +13,7 @@ send-row-requires c κs =
     let start = row .before .before .before .before .before .before in
     let a = start .args in
     let p = start .pre .1 in
-    (start .pre .0, ((p .1 .0 .1, p .1 .0 .2), (row .row-of .ensures .1, p .1 .1 .1, length-cut (a .destinations .now) (a .d * 48) 24 (p .0 .1))))
+    (start .pre .0, ((p .1 .0 .1, p .1 .0 .2), (row .row-of .ensures .1, p .1 .1 .1, length-lent (a .destinations .now) (a .d * 48) 24 (p .0 .1))))
 
 returns : tie.Need-returns
 returns c =

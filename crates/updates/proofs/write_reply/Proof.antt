@@ -3,7 +3,8 @@ use mathlib.Core.Path.{_∙_}
 use Prim.Native.Nat.{_*_}
 use lib.ListN.{getD}
 use borrow.Author.Needs.{needs}
-use Rattle.rows.specs.Rows.{put, part-cut}
+use Rattle.rows.specs.Rows.{put}
+use Rattle.rows.specs.Lent.{part-cut}
 use Rattle.reply.specs.Reply.{replyOf}
 use Rattle.updates.proofs.write_reply.Statement.{statement}
 use Rattle.updates.proofs.write_reply.Tie as tie

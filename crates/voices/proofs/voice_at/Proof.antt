@@ -1,7 +1,7 @@
 -- `voices::voice_at` meets its contract: the parts lent are the rows of voice k. Assumes nothing.
 use Prim.Native.Nat.{_*_}
 use mathlib.Core.Path.{_∙_}
-use Rattle.rows.specs.Rows.{part-cut}
+use Rattle.rows.specs.Lent.{part-cut}
 use Rattle.voice_rows.specs.VoiceRow.{voiceOf}
 use Rattle.voices.specs.Voices.{voiceAt}
 use borrow.Author.Needs.{needs}

@@ -3,21 +3,21 @@ use mathlib.Core.Path.{ap}
 use Prim.Native.Nat.{_-_}
 use native.Mathlib.Omega.{arith}
 use borrow.Author.Needs.{needs}
-use Rattle.desk.specs.Steps.{Stepping, steps-begin, steps-more, steps-end}
-use Rattle.desk.specs.Sinks.{SinkRows, SinksSized, sinkRows, sinkStep, sinksOf}
-use Rattle.desk.specs.SinkLaws.{step-sized}
+use Rattle.rows.specs.Loops.{Turning, turn-begin, turn-more, turn-end}
+use Rattle.desk.specs.Sinks.{SinkRows, sinkRows, sinkStep, sinksOf}
+use Rattle.desk.specs.SinkLaws.{Sized, step-sized}
 use Rattle.desk.proofs.sinks.update_sinks.Statement.{statement}
 use Rattle.desk.proofs.sinks.update_sinks.Tie as tie
 
 abbrev Inv-loop : tie.InvT-loop
 Inv-loop d n words₀ floats₀ count k₀ words floats k =
-    Stepping (sinkStep d) count (sinkRows words₀ floats₀) (sinkRows words floats) k × SinksSized n words floats
+    Turning (Sized n) (sinkStep d) count (sinkRows words₀ floats₀) (sinkRows words floats) k
 
 abbrev μ-loop : tie.MeasureT-loop
 μ-loop d n words₀ floats₀ count k₀ words floats k = count - k
 
 loop-holds : tie.Need-loop-holds Inv-loop μ-loop
-loop-holds c = (steps-begin _ _ _, c .before .before .before .before .pre)
+loop-holds c = turn-begin _ _ _ _ (c .before .before .before .before .pre)
 
 sink-record-requires : tie.Need-sink-record-requires Inv-loop μ-loop
 sink-record-requires c κs = (omega arith, omega arith, omega arith)
@@ -27,13 +27,12 @@ loop-again c =
     let done = c .before .before .before .before in
     let loop = done .before .before .before .before in
     let a = loop .before .before .before .before .before .args in
-    let e = done .sink-record .ensures in
-    (steps-more _ _ (loop .loop .inv .0) (omega arith) e, step-sized (a .n) (a .d .now) (loop .loop .k) _ (omega (arith, loop .before .least .ensures)) e (loop .loop .inv .1))
+    turn-more (loop .loop .inv) (omega arith) (step-sized (a .n) (a .d .now) (loop .loop .k) _ (omega (arith, loop .before .least .ensures))) (done .sink-record .ensures)
 
 returns : tie.Need-returns Inv-loop μ-loop
 unfolding sinksOf
 returns c =
-    let e = steps-end _ _ (c .before .loop .inv .0) (omega arith) (c .before .before .least .ensures) in
+    let e = turn-end (c .before .loop .inv) (omega arith) (c .before .before .least .ensures) in
     (ap (λ (st : SinkRows). st .words) e, ap (λ (st : SinkRows). st .floats) e)
 
 pub update-sinks-spec : {M : Type 1} → statement M

@@ -4,7 +4,7 @@ use native.Mathlib.Omega.{arith}
 use borrow.Author.Needs.{needs}
 use lib.ListN.{length}
 use Rattle.sound.specs.Perform.{performed-at}
-use Rattle.sound.specs.Parts.{lent, back}
+use Rattle.rows.specs.Lent.{rest-lent, rest-returned}
 use Rattle.sound.proofs.act.play.Statement.{statement}
 use Rattle.sound.proofs.act.play.Tie as tie
 
@@ -33,7 +33,9 @@ returns : tie.Need-returns
 returns c =
     let p4 = c .before .before .before .before in
     let p7 = p4 .before .before .before in
-    let h : p7 .args .at ≤ length (p7 .args .out .now) = omega (arith, p7 .pre .want) in performed-at (p7 .args .s) (p7 .args .memory .now) (p7 .args .coefficients .now) (p7 .args .c) (p7 .args .a) (p7 .args .x) (p7 .args .at) (p4 .renew .ensures) (lent (p7 .args .at) (p7 .args .out .now) h) (back (p7 .args .at) (p7 .args .out .now) h _) (c .before .before .play-decode .ensures)
+    let h : p7 .args .at ≤ length (p7 .args .out .now) = omega (arith, p7 .pre .want) in
+    performed-at (p7 .args .s) (p7 .args .memory .now) (p7 .args .coefficients .now) (p7 .args .c) (p7 .args .a) (p7 .args .x) (p7 .args .at) (p4 .renew .ensures)
+    (rest-lent (p7 .args .out .now) (p7 .args .at) h) (rest-returned (p7 .args .out .now) (p7 .args .at) h _) (c .before .before .play-decode .ensures)
 
 pub play-spec : {M : Type 1} → statement M
 play-spec =

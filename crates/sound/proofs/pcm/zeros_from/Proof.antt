@@ -3,7 +3,7 @@ use Prim.Native.Nat.{_-_}
 use borrow.Author.Needs.{needs}
 use lib.ListN.{length, replicate}
 use Rattle.floats.specs.Defs.{zero32}
-use Rattle.sound.specs.Parts.{back-all}
+use Rattle.rows.specs.Lent.{rest-filled}
 use Rattle.sound.proofs.pcm.zeros_from.Statement.{statement}
 use Rattle.sound.proofs.pcm.zeros_from.Tie as tie
 
@@ -31,7 +31,7 @@ same-length c = search needs
 returns : tie.Need-returns
 returns c =
     let p5 = c .before .before .before .before .before in
-    back-all (p5 .args .at) (p5 .args .out .now) (p5 .pre) (replicate (length (p5 .args .out .now) - p5 .args .at) zero32) (c .before .before .zeros .ensures)
+    rest-filled (p5 .args .out .now) (p5 .args .at) (p5 .pre) (replicate (length (p5 .args .out .now) - p5 .args .at) zero32) (c .before .before .zeros .ensures)
 
 pub zeros-from-spec : {M : Type 1} → statement M
 zeros-from-spec =

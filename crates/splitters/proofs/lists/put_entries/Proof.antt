@@ -4,7 +4,8 @@ use Prim.Native.Nat.{_-_}
 use native.Mathlib.Omega.{arith}
 use borrow.Author.Needs.{needs}
 use Rattle.rows.specs.Tables.{Tabling, table-begin, table-step, table-end}
-use Rattle.splitters.specs.Lists.{positiveOf, entryOf}
+use Rattle.fields.specs.Fields.{positive}
+use Rattle.splitters.specs.Lists.{entryOf}
 use Rattle.splitters.proofs.lists.put_entries.Statement.{statement}
 use Rattle.splitters.proofs.lists.put_entries.Tie as tie
 
@@ -20,7 +21,7 @@ loop-holds c = table-begin _ _ _ _ (omega arith)
 loop-again : tie.Need-loop-again Inv-loop μ-loop
 unfolding entryOf
 loop-again c =
-    table-step (c .before .before .before .loop .inv) (omega arith) (omega arith) (c .positive .ensures ∙ ap positiveOf (c .before .u32-at .ensures))
+    table-step (c .before .before .before .loop .inv) (omega arith) (omega arith) (c .positive .ensures ∙ ap positive (c .before .u32-at .ensures))
 
 returns : tie.Need-returns Inv-loop μ-loop
 returns c = table-end (c .before .loop .inv) (omega arith)

@@ -24,6 +24,7 @@ read-splitter-spec =
     (tie.spec
     (λ c. search needs)
     (λ c κs. search needs)
+    (λ c. search needs)
     (λ c κs. search needs)
     (λ c κs. omega arith)
     (λ c κs. omega arith)

@@ -9,8 +9,8 @@ returns : tie.Need-returns
 unfolding channelId
 returns c = omega arith
 
-not-negative-requires : tie.Need-not-negative-requires
-not-negative-requires c κs = search needs
+positive-requires : tie.Need-positive-requires
+positive-requires c κs = search needs
 
 sub-result : tie.Need-sub-result
 sub-result c = search needs
@@ -24,4 +24,4 @@ unfolding channelId
 returns-3 c = omega arith
 
 pub channel-id-spec : {M : Type 1} → statement M
-channel-id-spec = tie.close (tie.spec returns not-negative-requires sub-result returns-2 returns-3)
+channel-id-spec = tie.close (tie.spec returns positive-requires sub-result returns-2 returns-3)

@@ -5,7 +5,8 @@ use Prim.Native.Nat.{ℕ, _+_, _-_, _*_}
 use borrow.Author.Needs.{needs}
 use lib.ListN.{take, drop}
 use lib.Ieee.{Float}
-use Rattle.rows.specs.Rows.{part, part-cut}
+use Rattle.rows.specs.Rows.{part}
+use Rattle.rows.specs.Lent.{part-cut}
 use Rattle.sends.specs.Sends.{spread, gainAt}
 use Rattle.voice_sends.proofs.gains.send_gains.Statement.{statement}
 use Rattle.voice_sends.proofs.gains.send_gains.Tie as tie

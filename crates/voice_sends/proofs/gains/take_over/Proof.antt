@@ -1,5 +1,5 @@
 -- `gains::take_over` meets its contract: `Turning` holds at each turn. Assumes nothing.
-use mathlib.Core.Path.{_≡_, ap, _∙_}
+use mathlib.Core.Path.{_≡_, refl, ap, _∙_}
 use mathlib.Core.List.{List}
 use Prim.Native.Nat.{ℕ, _*_, _-_}
 use native.Mathlib.Omega.{arith}
@@ -7,7 +7,7 @@ use borrow.Author.Needs.{needs}
 use lib.ListN.{length, getD}
 use lib.Ieee.{Float}
 use Rattle.voice_sends.specs.Sending.{taken, takenOver}
-use Rattle.voice_sends.specs.Turns.{Turning, turn-begin, turn-more, turn-end}
+use Rattle.rows.specs.Loops.{Turning, turn-begin, turn-more, turn-end}
 use Rattle.voice_sends.specs.Laws.{taken-keeps}
 use Rattle.voice_sends.proofs.gains.take_over.Statement.{statement}
 use Rattle.voice_sends.proofs.gains.take_over.Tie as tie
@@ -29,7 +29,7 @@ loop-again c =
 
 returns : tie.Need-returns Inv-loop μ-loop
 unfolding takenOver
-returns c = turn-end (c .before .loop .inv) (omega arith)
+returns c = turn-end (c .before .loop .inv) (omega arith) refl
 
 pub take-over-spec : {M : Type 1} → statement M
 take-over-spec =

@@ -6,7 +6,7 @@ use borrow.Author.Needs.{needs}
 use lib.ListN.{length, getD}
 use Rattle.desk_rows.specs.DeskRows.{mixOffset, mixBuffers}
 use Rattle.voice_sends.specs.Sending.{passing, sent, mixSends}
-use Rattle.voice_sends.specs.Turns.{Turning, turn-begin, turn-more, turn-end}
+use Rattle.rows.specs.Loops.{Turning, turn-begin, turn-more, turn-end}
 use Rattle.voice_sends.specs.Sizes.{Sizes, sent-keeps}
 use Rattle.voice_sends.proofs.mix.mix_sends.Statement.{statement}
 use Rattle.voice_sends.proofs.mix.mix_sends.Tie as tie
@@ -37,7 +37,7 @@ loop-again c =
 
 returns : tie.Need-returns Inv-loop μ-loop
 unfolding mixSends
-returns c = turn-end (c .before .loop .inv) (omega arith)
+returns c = turn-end (c .before .loop .inv) (omega arith) refl
 
 pub mix-sends-spec : {M : Type 1} → statement M
 mix-sends-spec =

@@ -7,7 +7,7 @@ use borrow.Author.Needs.{needs}
 use lib.ListN.{length}
 use lib.Ieee.{Float}
 use Rattle.voice_sends.specs.Sending.{rampedRow, rampedRows}
-use Rattle.voice_sends.specs.Turns.{Turning, turn-begin, turn-more, turn-end}
+use Rattle.rows.specs.Loops.{Turning, turn-begin, turn-more, turn-end}
 use Rattle.voice_sends.specs.Laws.{row-inside, ramped-row-keeps}
 use Rattle.voice_sends.proofs.ramps.ramp_rows.Statement.{statement}
 use Rattle.voice_sends.proofs.ramps.ramp_rows.Tie as tie
@@ -34,7 +34,7 @@ loop-again c =
 
 returns : tie.Need-returns Inv-loop μ-loop
 unfolding rampedRows
-returns c = turn-end (c .before .loop .inv) (omega arith)
+returns c = turn-end (c .before .loop .inv) (omega arith) refl
 
 pub ramp-rows-spec : {M : Type 1} → statement M
 ramp-rows-spec =

@@ -5,7 +5,7 @@ use native.Mathlib.Omega.{arith}
 use borrow.Author.Needs.{needs}
 use lib.ListN.{length}
 use Rattle.voice_sends.specs.Sending.{passing, listSent, splitterSends}
-use Rattle.voice_sends.specs.Turns.{Turning, turn-begin, turn-more, turn-end}
+use Rattle.rows.specs.Loops.{Turning, turn-begin, turn-more, turn-end}
 use Rattle.voice_sends.specs.Sizes.{Sizes, list-keeps}
 use Rattle.voice_sends.proofs.splitter.splitter_sends.Statement.{statement}
 use Rattle.voice_sends.proofs.splitter.splitter_sends.Tie as tie
@@ -30,7 +30,7 @@ loop-again c = turn-more (c .before .before .before .before .before .before .bef
 
 returns : tie.Need-returns Inv-loop μ-loop
 unfolding splitterSends
-returns c = turn-end (c .before .loop .inv) (omega arith)
+returns c = turn-end (c .before .loop .inv) (omega arith) refl
 
 pub splitter-sends-spec : {M : Type 1} → statement M
 splitter-sends-spec =

@@ -16,11 +16,11 @@ u32-at-requires c κs = search needs
 u32-at-requires-2 : tie.Need-u32-at-requires-2
 u32-at-requires-2 c κs = search needs
 
-byte-at-requires : tie.Need-byte-at-requires
-byte-at-requires c κs = search needs
+flag-at-requires : tie.Need-flag-at-requires
+flag-at-requires c κs = search needs
 
-byte-at-requires-2 : tie.Need-byte-at-requires-2
-byte-at-requires-2 c κs = search needs
+flag-at-requires-2 : tie.Need-flag-at-requires-2
+flag-at-requires-2 c κs = search needs
 
 u32-at-requires-3 : tie.Need-u32-at-requires-3
 u32-at-requires-3 c κs = search needs
@@ -41,8 +41,8 @@ returns c =
     (c .before .before .before .before .before .before .before .before .u64-at2 .ensures)
     (c .before .before .before .before .before .before .before .u32-at .ensures)
     (c .before .before .before .before .before .before .u32-at2 .ensures)
-    (c .before .before .before .before .before .byte-at .ensures)
-    (c .before .before .before .before .byte-at2 .ensures)
+    (c .before .before .before .before .before .flag-at .ensures)
+    (c .before .before .before .before .flag-at2 .ensures)
     (c .before .before .before .u32-at3 .ensures)
     (c .before .before .u64-at3 .ensures)
     (c .before .u32-at4 .ensures)
@@ -56,8 +56,8 @@ parse-spec =
     u64-at-requires-2
     u32-at-requires
     u32-at-requires-2
-    byte-at-requires
-    byte-at-requires-2
+    flag-at-requires
+    flag-at-requires-2
     u32-at-requires-3
     u64-at-requires-3
     u32-at-requires-4

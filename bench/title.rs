@@ -1,0 +1,145 @@
+//! An update and a render of a typical title against kirikae's, from the same state, call after call.
+#[path = "../compare/generate.rs"]
+mod generate;
+#[path = "../compare/inputs.rs"]
+mod inputs;
+#[path = "../compare/port.rs"]
+mod port;
+#[path = "../compare/random.rs"]
+mod random;
+use generate::BASE;
+use oracle::Memory;
+use oracle::mixer::probe::Slices;
+use oracle::renderer::Probe;
+use random::{Random, bits};
+use std::hint::black_box;
+use std::time::Instant;
+
+const VOICES: usize = 24;
+const MIXES: usize = 5;
+const SAMPLES: usize = 240;
+
+/// What plays: PCM16, every fourth voice in stereo, or else every second voice in ADPCM; the voices' sample rates in turn.
+struct Desk {
+    name: &'static str,
+    sounds: bool,
+    rates: [u32; 3],
+    adpcm: bool,
+}
+
+/// The state of a title with 24 voices that loop, four stereo sub-mixes, a final mix and a stereo sink.
+fn state(desk: &Desk, memory: usize) -> Slices {
+    let revision = u32::from_le_bytes(*b"REV8");
+    let mut s = Slices {
+        words: vec![48000, SAMPLES as u32, 2 * MIXES as u32, MIXES as u32 - 1, VOICES as u32, 1, 0, 0, 0, revision],
+        longs: vec![0],
+        floats: vec![],
+        contexts: vec![0; VOICES * 3],
+        history: vec![0.0; VOICES * 18],
+    };
+    for v in 0..VOICES {
+        let adpcm = desk.adpcm && v % 2 == 1;
+        let mut w = [0u32; 58];
+        let mut l = [0u64; 14];
+        w[0] = u32::from(desk.sounds);
+        w[3] = if adpcm { 6 } else { 2 };
+        w[4] = desk.rates[v % 3];
+        w[5] = if !adpcm && v % 4 == 0 { 2 } else { 1 };
+        w[6] = 1;
+        w[10] = (v % MIXES) as u32;
+        w[11] = u32::MAX;
+        w[12] = v as u32;
+        w[13] = ((v + 1) % VOICES) as u32;
+        w[18] = 1;
+        w[27] = 9000 + v as u32 * 100;
+        w[28] = 1;
+        w[30] = u32::MAX;
+        (l[0], l[2], l[3]) = (BASE, BASE + 64, memory as u64 - 64);
+        s.words.extend(w);
+        s.longs.extend(l);
+        s.floats.extend([1.0, 0.75, 0.75, 0.0]);
+    }
+    for _ in 0..VOICES {
+        s.floats.extend((0..48).map(|k| if k % 24 < 2 { 0.5 } else { 0.0 }));
+    }
+    for m in 0..MIXES {
+        s.words.extend([1, 2, if m == 0 { 0x7fff_ffff } else { 0 }, u32::MAX, 2 * m as u32]);
+        s.floats.push(if m == 0 { 1.0 } else { 0.9 });
+        s.floats.extend((0..576).map(|k| if k == 0 || k == 25 { 1.0 } else { 0.0 }));
+    }
+    s.words.extend([1, 1, 2, 0, 1, 0, 0, 0, 0, 0]);
+    s.floats.extend([0.0; 4]);
+    s
+}
+
+/// The median over many runs, taken in turn, of port over Rust.
+fn ratio(name: &str, mut port: impl FnMut(), mut rust: impl FnMut()) {
+    let mut ratios: Vec<f64> = (0..301)
+        .map(|_| {
+            let t = Instant::now();
+            (0..10).for_each(|_| port());
+            let a = t.elapsed().as_secs_f64();
+            let t = Instant::now();
+            (0..10).for_each(|_| rust());
+            a / t.elapsed().as_secs_f64()
+        })
+        .collect();
+    ratios.sort_by(f64::total_cmp);
+    println!("{name}: {:.2}", ratios[150]);
+}
+
+fn main() {
+    let r = &mut Random(7);
+    let mut memory = r.bytes(200_000);
+    for (k, c) in [0i16, 0, 2048, 0, 0, 1024, 1024, 512, 3000, -1200, 1536, 256, 1024, -256, 512, 0].into_iter().enumerate() {
+        memory[k * 2..][..2].copy_from_slice(&c.to_le_bytes());
+    }
+    for desk in [
+        Desk { name: "PCM16 and ADPCM at 48000, 44100 and 32000 Hz", sounds: true, rates: [48000, 44100, 32000], adpcm: true },
+        Desk { name: "PCM16 at 48000 Hz", sounds: true, rates: [48000; 3], adpcm: false },
+        Desk { name: "silent", sounds: false, rates: [48000; 3], adpcm: true },
+    ] {
+        let before = state(&desk, memory.len());
+        let (mut s, probe) = (before.clone(), Probe::restore(&before));
+        let (mut frames, mem) = (vec![0.0; 2 * SAMPLES], Memory { base: BASE, bytes: &memory });
+        for _ in 0..200 {
+            assert_eq!(port::render(&mut s, BASE, &memory, &mut frames).number, 0);
+            let theirs: Vec<f32> = probe.render(&mem).into_iter().flatten().collect();
+            assert!(frames.iter().zip(&theirs).all(|(x, y)| bits(*x) == bits(*y)), "{}: frames differ", desk.name);
+        }
+        assert_eq!(desk.sounds, frames.iter().any(|&x| x != 0.0), "{}", desk.name);
+        ratio(
+            &format!("render, 24 voices, 240 samples, {}", desk.name),
+            || {
+                black_box(port::render(&mut s, BASE, black_box(&memory), &mut frames));
+            },
+            || {
+                black_box(probe.render(black_box(&mem)));
+            },
+        );
+    }
+
+    let before = state(&Desk { name: "", sounds: true, rates: [48000, 44100, 32000], adpcm: true }, memory.len());
+    let input = loop {
+        let (bytes, kind) = inputs::input(r, &before.words, memory.len() as u64);
+        if kind == 0 {
+            break bytes;
+        }
+    };
+    let (mut s, probe) = (before.clone(), Probe::restore(&before));
+    let mut reply = vec![0; probe.update(&input, 0x2000).len()];
+    assert_eq!(port::update(&mut s, 0x2000, &input, &mut reply).number, 0);
+    for _ in 0..20 {
+        assert_eq!(port::update(&mut s, 0x2000, &input, &mut reply).number, 0);
+        assert_eq!(reply, probe.update(&input, 0x2000), "replies differ");
+    }
+    ratio(
+        &format!("update, 24 voices, {} bytes", input.len()),
+        || {
+            black_box(port::update(&mut s, 0x2000, black_box(&input), &mut reply));
+        },
+        || {
+            black_box(probe.update(black_box(&input), 0x2000));
+        },
+    );
+}

@@ -1,2 +1,0 @@
-pub mod Cut
-pub mod Running
