@@ -2,48 +2,13 @@
 use crate::random::bits;
 use oracle::mixer::probe::Slices;
 
-#[derive(Clone, Copy, Debug, PartialEq)]
-#[repr(C)]
-pub struct Lengths {
-    pub number: u32,
-    pub words: usize,
-    pub longs: usize,
-    pub floats: usize,
-    pub contexts: usize,
-    pub history: usize,
-}
-
-#[derive(Clone, Copy, Debug, PartialEq)]
-#[repr(C)]
-pub struct Updated {
-    pub number: u32,
-    pub size: usize,
-}
-
-#[derive(Clone, Copy, Debug, PartialEq)]
-#[repr(C)]
-pub struct Rendered {
-    pub number: u32,
-    pub rounds: u32,
-}
-
-unsafe extern "C" {
-    fn jeqlluna_lengths(parameters: *const u8, parameters_len: usize) -> Lengths;
-    fn jeqlluna_open(
-        parameters: *const u8, parameters_len: usize, words: *mut u32, words_len: usize, longs: *mut u64, longs_len: usize, floats: *mut f32,
-        floats_len: usize, contexts: *mut u16, contexts_len: usize, history: *mut f32, history_len: usize,
-    ) -> u32;
-    fn jeqlluna_update(
-        words: *mut u32, words_len: usize, longs: *mut u64, longs_len: usize, floats: *mut f32, floats_len: usize, contexts: *mut u16,
-        contexts_len: usize, history: *mut f32, history_len: usize, expected: u32, input: *const u8, input_len: usize, reply: *mut u8,
-        reply_len: usize,
-    ) -> Updated;
-    fn jeqlluna_render(
-        words: *mut u32, words_len: usize, longs: *mut u64, longs_len: usize, floats: *mut f32, floats_len: usize, contexts: *mut u16,
-        contexts_len: usize, history: *mut f32, history_len: usize, base: u64, memory: *const u8, memory_len: usize, frames: *mut f32,
-        frames_len: usize,
-    ) -> Rendered;
-}
+// The interface is declared once, in the Rust crate that titles link.
+#[allow(dead_code)]
+#[path = "../bindings/rust/src/sys.rs"]
+mod sys;
+use sys::{jeqlluna_lengths, jeqlluna_open, jeqlluna_render, jeqlluna_update};
+#[allow(unused_imports)]
+pub use sys::{Lengths, Render, Update};
 
 pub fn lengths(parameters: &[u8]) -> Lengths {
     unsafe { jeqlluna_lengths(parameters.as_ptr(), parameters.len()) }
@@ -58,7 +23,7 @@ pub fn open(parameters: &[u8], s: &mut Slices) -> u32 {
     }
 }
 
-pub fn update(s: &mut Slices, expected: u32, input: &[u8], reply: &mut [u8]) -> Updated {
+pub fn update(s: &mut Slices, expected: u32, input: &[u8], reply: &mut [u8]) -> Update {
     unsafe {
         jeqlluna_update(
             s.words.as_mut_ptr(), s.words.len(), s.longs.as_mut_ptr(), s.longs.len(), s.floats.as_mut_ptr(), s.floats.len(),
@@ -68,7 +33,7 @@ pub fn update(s: &mut Slices, expected: u32, input: &[u8], reply: &mut [u8]) -> 
     }
 }
 
-pub fn render(s: &mut Slices, base: u64, memory: &[u8], frames: &mut [f32]) -> Rendered {
+pub fn render(s: &mut Slices, base: u64, memory: &[u8], frames: &mut [f32]) -> Render {
     unsafe {
         jeqlluna_render(
             s.words.as_mut_ptr(), s.words.len(), s.longs.as_mut_ptr(), s.longs.len(), s.floats.as_mut_ptr(), s.floats.len(),

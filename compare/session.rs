@@ -14,7 +14,7 @@ mod title;
 use modes::{Call, MODES, Open, Session, session};
 use oracle::mixer::probe::Slices;
 use oracle::session::Session as Oracle;
-use port::{Lengths, Rendered, Updated, all, place, places, seen};
+use port::{Lengths, Render, Update, all, place, places, seen};
 use random::Random;
 
 #[derive(Default)]
@@ -88,7 +88,7 @@ fn call(c: &Call, s: &mut Slices, oracle: &mut Oracle, t: &mut Tally) -> Result<
             if result.is_ok() && reply.len() != oracle.reply_length(*expected) {
                 return Err(format!("the oracle gives {} bytes", reply.len()));
             }
-            let should = Updated { number: result.as_ref().err().copied().unwrap_or(0), size: reply.len() };
+            let should = Update { number: result.as_ref().err().copied().unwrap_or(0), size: reply.len() };
             let (given, beyond) = out.split_at(reply.len().min(room));
             if answer != should || place(given, reply).is_some() || beyond.iter().any(|&b| b != 0xa5) {
                 return Err(format!("update {answer:?}, not {should:?}; reply at {:?}", place(given, reply)));
@@ -105,7 +105,7 @@ fn call(c: &Call, s: &mut Slices, oracle: &mut Oracle, t: &mut Tally) -> Result<
             if result.is_ok() && frames.len() != 2 * oracle.samples() {
                 return Err(format!("the oracle gives {} floats", frames.len()));
             }
-            let should = Rendered { number: result.as_ref().err().copied().unwrap_or(0), rounds: rounds as u32 };
+            let should = Render { number: result.as_ref().err().copied().unwrap_or(0), rounds: rounds as u32 };
             let (given, beyond) = out.split_at(frames.len().min(room));
             if answer != should || all(given) != all(frames) || beyond.iter().any(|&x| x != 0.25) {
                 return Err(format!("render {answer:?}, not {should:?}; frames at {:?}", place(&all(given), &all(frames))));
