@@ -80,7 +80,7 @@ fn store_destination(
 }
 
 // The destination that the record at `at` names, if there is one, takes it.
-fn read_destination(
+pub fn read_destination(
     d: &[u8],
     at: usize,
     ns: usize,

@@ -8,6 +8,10 @@ ghost use mathlib.Core.Path.{_≡_};
 ghost use Prim.Native.Nat.{_+_, _<_, _^_};
 ghost use Rattle.splitters.specs.Destinations.{left};
 ghost use Rattle.splitters.specs.Section.{Sized, roundedUp, recordsFrom, splittersOf};
+// What reads one record, for a reader that goes from record to record.
+pub use destinations::find_stride;
+pub use destinations::read_destination;
+pub use lists::read_splitter;
 
 pub const SPLITTER_HEADER_MAGIC: u32 = 0x4844_4e53;
 
@@ -16,7 +20,7 @@ pub const SPLITTER_MAGIC: u32 = 0x4944_4e53;
 pub const DESTINATION_MAGIC: u32 = 0x4444_4e53;
 
 // The Rust's `next_multiple_of(0x10)`.
-fn rounded_up(n: usize) -> usize
+pub fn rounded_up(n: usize) -> usize
     requires { ⌜ n < 2 ^ 63 + 540 ⌝ }
     ensures { λ r. ⌜ (r ≡ roundedUp n) × (r < 2 ^ 63 + 600) ⌝ }
 {

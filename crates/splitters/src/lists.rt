@@ -50,7 +50,7 @@ fn next_place(d: &[u8], at: usize, n: usize) -> usize
 }
 
 // The record at `at`: where the next begins.
-fn read_splitter(d: &[u8], at: usize, ns: usize, nd: usize, words: &mut [u32]) -> usize
+pub fn read_splitter(d: &[u8], at: usize, ns: usize, nd: usize, words: &mut [u32]) -> usize
     requires { ⌜ (at < 2 ^ 63) × (nd ≤ 128) × (ns * 129 ≤ length (now words)) ⌝ }
     ensures { λ r. ⌜ (lists r (now (words .exit)) ≡ splitterStep ns nd (now (d .entry)) (lists at (now (words .entry)))) × (r ≤ at + 540) ⌝ }
 {
