@@ -60,11 +60,23 @@ impl Byte {
         Byte(self.0 + n)
     }
 
+    // The byte before it.
     pub fn before(self) -> Byte
         requires { ⌜ 0 < self .0 ⌝ }
         ensures { λ r. ⌜ r .0 ≡ self .0 - 1 ⌝ }
     {
         Byte(self.0 - 1)
+    }
+
+    // How many bytes it is past another; 0 where it is not.
+    pub fn past(self, other: Byte) -> u64
+        ensures { λ r. ⌜ r ≡ self .0 - other .0 ⌝ }
+    {
+        if other.0 < self.0 {
+            self.0 - other.0
+        } else {
+            0
+        }
     }
 
     // Its place in a slice whose first byte is base.

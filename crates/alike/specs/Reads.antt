@@ -29,7 +29,7 @@ span at long = record { at = at; long = long }
 unfoldable pub decodeReads : Source → Decode → List Span
 decodeReads s Nothing = []
 decodeReads s (Pcm width addr n) = span addr (n * (width * s .channels)) ∷ []
-decodeReads s (Adpcm addr bytes start want) = span addr bytes ∷ []
+decodeReads s (Adpcm want addr bytes start) = span addr bytes ∷ []
 decodeReads s (Silence n) = []
 
 -- a round: its context where that is read anew, then its samples

@@ -4,12 +4,13 @@ use native.Mathlib.Omega.{arith}
 use mathlib.Core.Bool.{Bool, true, false, cond, not, _&&_, _||_}
 use mathlib.Core.List.{List, [], _∷_, _++_}
 use mathlib.Core.Path.{_≡_, refl, _∙_}
-use borrow.Author.Tests.{eqb-true, le-leb}
-use lib.Dec.{leb, eqb}
+use borrow.Author.Tests.{eqb-true, leb-true, ltb-true, le-leb, lt-ltb}
+use lib.Dec.{leb, ltb, eqb}
 use lib.ListN.{length, length-set, length-append}
 use Rattle.memory.specs.Memory.{readableOf}
 use Rattle.adpcm.specs.Places.{nibbleOf, sizeOf}
 use Rattle.adpcm.specs.Runs.{countOf, count-le}
+use Rattle.adpcm.specs.declared.places.Sample.{Sample}
 use Rattle.voice.specs.Queue.{bufferAt, endBuffer}
 use Rattle.voice.specs.declared.wave.WaveBuffer.{WaveBuffer}
 use Rattle.voice.specs.declared.queue.Queue.{Queue}
@@ -21,36 +22,36 @@ use Rattle.plan.specs.declared.attempt.Got.{Got}
 use Rattle.plan.specs.declared.attempt.Got.the-variants.{Missing, Samples}
 use Rattle.plan.specs.declared.attempt.Attempt.{Attempt}
 use Rattle.plan.specs.declared.rounds.Round.{Round}
-use Rattle.plan.specs.declared.rounds.Moved.{Moved}
-use Rattle.plan.specs.Attempt.{noSamples, pcmPlan, adpcmPlan, decodePlan}
+use Rattle.plan.specs.declared.after.Moved.{Moved}
+use Rattle.plan.specs.Attempt.{sample, noSamples, pcmPlan, adpcmPlan, decodePlan}
 use Rattle.plan.specs.Rounds.{renewsOf, inLoop, loopsOver, at, afterMissing, afterLoop, spanOver, afterGot, roundOf, roundPlan, Planned, grown, rounds, more, hasTable, planOf}
 
 -- the samples that a decode asks room for
 abbrev pub wantOf : Decode → ℕ
 wantOf Nothing = 0
 wantOf (Pcm width addr n) = n
-wantOf (Adpcm addr bytes pos want) = want
+wantOf (Adpcm want addr bytes start) = want
 wantOf (Silence n) = n
 
 -- the samples that it makes
 abbrev pub madeOf : Decode → ℕ
 madeOf Nothing = 0
 madeOf (Pcm width addr n) = n
-madeOf (Adpcm addr bytes pos want) = countOf bytes pos want
+madeOf (Adpcm want addr bytes start) = countOf bytes (start .0) want
 madeOf (Silence n) = n
 
 -- its read succeeds
 abbrev pub readsOf : Source → Decode → Bool
 readsOf s Nothing = true
 readsOf s (Pcm width addr n) = readableOf (s .base) (s .size) addr (n * (width * s .channels))
-readsOf s (Adpcm addr bytes pos want) = readableOf (s .base) (s .size) addr bytes
+readsOf s (Adpcm want addr bytes start) = readableOf (s .base) (s .size) addr bytes
 readsOf s (Silence n) = true
 
--- PCM is 2 or 4 bytes wide, and ADPCM reads no more bytes than its samples take
+-- PCM is 2 or 4 bytes wide; ADPCM starts below 2^32, and reads no more bytes than its samples take
 abbrev pub formedOf : Decode → Bool
 formedOf Nothing = true
 formedOf (Pcm width addr n) = eqb width 2 || eqb width 4
-formedOf (Adpcm addr bytes pos want) = leb bytes (sizeOf (pos + want))
+formedOf (Adpcm want addr bytes start) = ltb (start .0) (2 ^ 32) && leb bytes (sizeOf (start .0 + want))
 formedOf (Silence n) = true
 
 -- an act's reads succeed
@@ -68,7 +69,7 @@ pub data Fits (s : Source) (count : ℕ) : ℕ → List Act → ℕ → Type 0 w
 pub made-le : (d : Decode) → madeOf d ≤ wantOf d
 made-le Nothing = omega arith
 made-le (Pcm width addr n) = omega arith
-made-le (Adpcm addr bytes pos want) = count-le bytes pos want
+made-le (Adpcm want addr bytes start) = count-le bytes (start .0) want
 made-le (Silence n) = omega arith
 
 -- one act more
@@ -76,6 +77,16 @@ fits-snoc : {s : Source} {count made done : ℕ} {acts : List Act} (a : Act) →
     → Fits s count made (acts ++ (a ∷ [])) (done + madeOf (a .decode))
 fits-snoc a fits-none h r = fits-more h r fits-none
 fits-snoc a (fits-more g q f) h r = fits-more g q (fits-snoc a f h r)
+
+both : (p q : Bool) → p && q ≡ true → (p ≡ true) × (q ≡ true)
+both true q h = (refl, h)
+both false q h = absurd (let z : _≡_ {A = ℕ} 0 1 = cc in omega arith)
+
+-- where an ADPCM decode starts, and how many bytes it reads
+pub adpcm-formed : (addr bytes : ℕ) (start : Sample) (want : ℕ) → formedOf (Adpcm want addr bytes start) ≡ true → (start .0 < 2 ^ 32) × (bytes ≤ sizeOf (start .0 + want))
+adpcm-formed addr bytes start want h =
+    let b = both (ltb (start .0) (2 ^ 32)) (leb bytes (sizeOf (start .0 + want))) h in
+    (ltb-true (start .0) (2 ^ 32) (b .0), leb-true bytes (sizeOf (start .0 + want)) (b .1))
 
 -- ---- a decode
 
@@ -97,36 +108,39 @@ record Tried (s : Source) (want : ℕ) (a : Attempt) : Type 0 where
 tried-none : (s : Source) (want : ℕ) → Tried s want noSamples
 tried-none s want = record { room = omega arith; made = refl; reads = refl; formed = refl }
 
-tried-pcm : (width : ℕ) (s : Source) (w : WaveBuffer) (pos want : ℕ) → eqb width 2 || eqb width 4 ≡ true → Tried s want (pcmPlan width s w pos want)
+tried-pcm : (width : ℕ) (s : Source) (w : WaveBuffer) (start : Sample) (want : ℕ) → eqb width 2 || eqb width 4 ≡ true → Tried s want (pcmPlan width s w start want)
 unfolding pcmPlan
-tried-pcm width s w pos want h =
-    by-cond (Tried s want) (eqb (min want (w .size / (width * s .channels) - pos)) 0) (λ e. tried-none s want)
+tried-pcm width s w start want h =
+    by-cond (Tried s want) (eqb (min want (w .size / (width * s .channels) - start .0)) 0) (λ e. tried-none s want)
     (λ e. by-cond (Tried s want) (readableOf (s .base) (s .size) _ _) (λ r. record { room = omega arith; made = refl; reads = r; formed = h }) (λ r. tried-none s want))
 
 got-count : (n : ℕ) (b : Bool) → eqb n 0 ≡ b → n ≡ gotOf (cond b Missing (Samples n))
 got-count n true e = eqb-true n 0 e
 got-count n false e = refl
 
-tried-adpcm : (s : Source) (w : WaveBuffer) (pos want : ℕ) → Tried s want (adpcmPlan s w pos want)
+formed-adpcm : (addr bytes : ℕ) (start : Sample) (want : ℕ) → start .0 < 2 ^ 32 → bytes ≤ sizeOf (start .0 + want) → formedOf (Adpcm want addr bytes start) ≡ true
+formed-adpcm addr bytes start want h l = rw (lt-ltb (start .0) (2 ^ 32) h) (le-leb bytes (sizeOf (start .0 + want)) l)
+
+tried-adpcm : (s : Source) (w : WaveBuffer) (start : Sample) (want : ℕ) → start .0 < 2 ^ 32 → Tried s want (adpcmPlan s w start want)
 unfolding adpcmPlan
-tried-adpcm s w pos want =
-    let first = nibbleOf pos / 2 in
-    let last = min (sizeOf (pos + want)) (w .size) in
+tried-adpcm s w start want h =
+    let first = nibbleOf (start .0) / 2 in
+    let last = min (sizeOf (start .0 + want)) (w .size) in
     let addr = (w .addr + first) % 2 ^ 64 in
-    let n = countOf (last - first) pos want in
-    let a : Attempt = record { got = cond (eqb n 0) Missing (Samples n); decode = Adpcm addr (last - first) pos want } in
+    let n = countOf (last - first) (start .0) want in
+    let a : Attempt = record { got = cond (eqb n 0) Missing (Samples n); decode = Adpcm want addr (last - first) start } in
     by-cond (Tried s want) (leb last first) (λ e. tried-none s want)
     (λ e. by-cond (Tried s want) (readableOf (s .base) (s .size) addr (last - first)) {x = a}
-    (λ r. record { room = omega arith; made = got-count n (eqb n 0) refl; reads = r; formed = le-leb (last - first) (sizeOf (pos + want)) (omega arith) })
+    (λ r. record { room = omega arith; made = got-count n (eqb n 0) refl; reads = r; formed = formed-adpcm addr (last - first) start want h (omega arith) })
     (λ r. tried-none s want))
 
-tried-decode : (s : Source) (w : WaveBuffer) (pos want : ℕ) → Tried s want (decodePlan s w pos want)
+tried-decode : (s : Source) (w : WaveBuffer) (start : Sample) (want : ℕ) → start .0 < 2 ^ 32 → Tried s want (decodePlan s w start want)
 unfolding decodePlan
-tried-decode s w pos want =
+tried-decode s w start want below =
     by-cond (Tried s want) (eqb want 0) (λ e. record { room = omega arith; made = refl; reads = refl; formed = refl })
-    (λ e. by-cond (Tried s want) (eqb (s .format) 2) (λ f. tried-pcm 2 s w pos want refl)
-    (λ f. by-cond (Tried s want) (eqb (s .format) 5) (λ g. tried-pcm 4 s w pos want refl)
-    (λ g. by-cond (Tried s want) (eqb (s .format) 6) (λ h. tried-adpcm s w pos want) (λ h. record { room = omega arith; made = refl; reads = refl; formed = refl }))))
+    (λ e. by-cond (Tried s want) (eqb (s .format) 2) (λ f. tried-pcm 2 s w start want refl)
+    (λ f. by-cond (Tried s want) (eqb (s .format) 5) (λ g. tried-pcm 4 s w start want refl)
+    (λ g. by-cond (Tried s want) (eqb (s .format) 6) (λ h. tried-adpcm s w start want below) (λ h. record { room = omega arith; made = refl; reads = refl; formed = refl }))))
 
 -- ---- the queue
 
@@ -180,14 +194,10 @@ unfolding roundOf
 rounded-of q s w total left act Missing h m r = record { room = h; made = m; reads = r; queue = kept-missing q }
 rounded-of q s w total left act (Samples n) h m r = record { room = h; made = m; reads = r; queue = kept-got q s w total n }
 
-both : (p q : Bool) → p && q ≡ true → q ≡ true
-both true q h = h
-both false q h = absurd (let z : _≡_ {A = ℕ} 0 1 = cc in omega arith)
-
 renews-reads : (s : Source) (w : WaveBuffer) (offset : ℕ) → renewsOf s w offset ≡ true → readableOf (s .base) (s .size) (w .context) 6 ≡ true
 unfolding renewsOf
 renews-reads s w offset h =
-    both (not (eqb (w .context) 0)) _ (both (eqb (s .format) 6) _ (both (eqb offset 0) _ h))
+    both (not (eqb (w .context) 0)) _ (both (eqb (s .format) 6) _ (both (eqb offset 0) _ h .1) .1) .1
 
 under : (x left room : ℕ) → x ≤ min left room → x ≤ left
 under x left room h = omega arith
@@ -199,9 +209,9 @@ rounded q s left =
     let looped = inLoop (s .«buffers_v2») w (q .loops) in
     let start = cond looped (w .«loop_start») (w .start) in
     let total = cond looped (w .«loop_end») (w .end) - start in
-    let tried = decodePlan s w ((start + q .offset) % 2 ^ 32) (min left (total - q .offset)) in
+    let tried = decodePlan s w (sample ((start + q .offset) % 2 ^ 32)) (min left (total - q .offset)) in
     let act : Act = record { renews = renewsOf s w (q .offset); context = w .context; decode = tried .decode } in
-    let t = tried-decode s w ((start + q .offset) % 2 ^ 32) (min left (total - q .offset)) in
+    let t = tried-decode s w (sample ((start + q .offset) % 2 ^ 32)) (min left (total - q .offset)) (omega arith) in
     rounded-of q s w total left act (tried .got) (under (wantOf (tried .decode)) left (total - q .offset) (t .room)) (t .made)
     (record { context = renews-reads s w (q .offset); decode = t .reads; formed = t .formed })
 

@@ -1,12 +1,14 @@
 -- What the functions of a plan put together is what their definitions say. Assumes nothing.
 use Prim.Native.Nat.{ℕ, _+_, _-_, _*_, _/_, _%_, _^_, min}
-use mathlib.Core.Bool.{Bool, true, cond, not}
-use mathlib.Core.Path.{_≡_, ap, sym, _∙_}
-use borrow.Author.Tests.{eq-eqb, ne-eqb}
+use mathlib.Core.Bool.{Bool, true, false, cond, not}
+use mathlib.Core.Path.{_≡_, refl, ap, sym, _∙_}
+use native.Mathlib.Omega.{arith}
+use borrow.Author.Tests.{eq-eqb, ne-eqb, leb-true, leb-false}
 use lib.Dec.{leb, eqb}
 use Rattle.memory.specs.Memory.{readableOf}
 use Rattle.adpcm.specs.Places.{nibbleOf, sizeOf}
 use Rattle.adpcm.specs.Runs.{countOf}
+use Rattle.adpcm.specs.declared.places.Sample.{Sample}
 use Rattle.voice.specs.Queue.{bufferAt}
 use Rattle.voice.specs.declared.wave.WaveBuffer.{WaveBuffer}
 use Rattle.voice.specs.declared.queue.Queue.{Queue}
@@ -16,59 +18,67 @@ use Rattle.plan.specs.declared.Decode.the-variants.{Nothing, Pcm, Adpcm,
 use Rattle.plan.specs.declared.attempt.Got.{Got}
 use Rattle.plan.specs.declared.attempt.Got.the-variants.{Missing, Samples}
 use Rattle.plan.specs.declared.attempt.Attempt.{Attempt}
-use Rattle.plan.specs.declared.rounds.Moved.{Moved}
-use Rattle.plan.specs.Attempt.{noSamples, pcmPlan, adpcmPlan, decodePlan}
+use Rattle.plan.specs.declared.after.Moved.{Moved}
+use Rattle.plan.specs.Attempt.{sample, noSamples, pcmPlan, adpcmPlan, decodePlan}
 use Rattle.plan.specs.Rounds.{renewsOf, inLoop, loopsOver, resetsPlayed, at, endIf, resetIf, afterMissing, afterLoop, spanOver, afterGot, roundOf, roundPlan}
 
 -- ---- decodes
 
 -- the frames there are, and whether they can be read
-pub pcm-made : (width : ℕ) (s : Source) (w : WaveBuffer) (pos want : ℕ) {n addr : ℕ} {e b : Bool}
-    → n ≡ min want (w .size / (width * s .channels) - pos) → eqb n 0 ≡ e → addr ≡ (w .addr + pos * (width * s .channels)) % 2 ^ 64
+pub pcm-made : (width : ℕ) (s : Source) (w : WaveBuffer) (start : Sample) (want : ℕ) {n addr : ℕ} {e b : Bool}
+    → n ≡ min want (w .size / (width * s .channels) - start .0) → eqb n 0 ≡ e → addr ≡ (w .addr + start .0 * (width * s .channels)) % 2 ^ 64
     → readableOf (s .base) (s .size) addr (n * (width * s .channels)) ≡ b
-    → cond e noSamples (cond b (record { got = Samples n; decode = Pcm width addr n }) noSamples) ≡ pcmPlan width s w pos want
+    → cond e noSamples (cond b (record { got = Samples n; decode = Pcm width addr n }) noSamples) ≡ pcmPlan width s w start want
 unfolding pcmPlan
-pcm-made width s w pos want hn he ha hb = λ i.
+pcm-made width s w start want hn he ha hb = λ i.
     cond ((sym he ∙ ap (λ (x : ℕ). eqb x 0) hn) i) noSamples
     (cond ((sym hb ∙ (λ j. readableOf (s .base) (s .size) (ha j) (hn j * (width * s .channels)))) i)
     (record { got = Samples (hn i); decode = Pcm width (ha i) (hn i) })
     noSamples)
 
--- the bytes from first to last, whether there are any, whether they can be read, and how many samples they hold
-pub adpcm-made : (s : Source) (w : WaveBuffer) (pos want : ℕ) {first last addr n : ℕ} {e b z : Bool}
-    → first ≡ nibbleOf pos / 2 → last ≡ min (sizeOf (pos + want)) (w .size) → leb last first ≡ e → addr ≡ (w .addr + first) % 2 ^ 64
-    → readableOf (s .base) (s .size) addr (last - first) ≡ b → n ≡ countOf (last - first) pos want → eqb n 0 ≡ z
-    → cond e noSamples (cond b (record { got = cond z Missing (Samples n); decode = Adpcm addr (last - first) pos want }) noSamples) ≡ adpcmPlan s w pos want
+-- the bytes from a up to b are none where b is not past a
+none-by : (a b : ℕ) (t : Bool) → leb b a ≡ t → eqb (b - a) 0 ≡ t
+none-by a b true e = eq-eqb (b - a) 0 (omega (arith, leb-true b a e))
+none-by a b false e = ne-eqb (b - a) 0 (λ z. omega (arith, leb-false b a e))
+
+-- the bytes from first on, whether there are any, whether they can be read, and how many samples they hold
+pub adpcm-made : (s : Source) (w : WaveBuffer) (start : Sample) (want : ℕ) {first bytes addr n : ℕ} {e b z : Bool}
+    → first ≡ nibbleOf (start .0) / 2 → bytes ≡ min (sizeOf (start .0 + want)) (w .size) - first → eqb bytes 0 ≡ e → addr ≡ (w .addr + first) % 2 ^ 64
+    → readableOf (s .base) (s .size) addr bytes ≡ b → n ≡ countOf bytes (start .0) want → eqb n 0 ≡ z
+    → cond e noSamples (cond b (record { got = cond z Missing (Samples n); decode = Adpcm want addr bytes start }) noSamples) ≡ adpcmPlan s w start want
 unfolding adpcmPlan
-adpcm-made s w pos want {n = n} hf hl he ha hb hn hz =
-    let m = hn ∙ (λ j. countOf (hl j - hf j) pos want) in
+adpcm-made s w start want {n = n} hf hl he ha hb hn hz =
+    let last = min (sizeOf (start .0 + want)) (w .size) in
+    let l = hl ∙ (λ j. last - hf j) in
+    let m = hn ∙ (λ j. countOf (l j) (start .0) want) in
     let a = ha ∙ (λ j. (w .addr + hf j) % 2 ^ 64) in
+    let e = sym he ∙ (λ j. eqb (l j) 0) ∙ none-by (nibbleOf (start .0) / 2) last _ refl in
     λ i.
-    cond ((sym he ∙ (λ j. leb (hl j) (hf j))) i) noSamples
-    (cond ((sym hb ∙ (λ j. readableOf (s .base) (s .size) (a j) (hl j - hf j))) i)
-    (record { got = cond ((sym hz ∙ (λ j. eqb (m j) 0)) i) Missing (Samples (m i)); decode = Adpcm (a i) (hl i - hf i) pos want })
+    cond (e i) noSamples
+    (cond ((sym hb ∙ (λ j. readableOf (s .base) (s .size) (a j) (l j))) i)
+    (record { got = cond ((sym hz ∙ (λ j. eqb (m j) 0)) i) Missing (Samples (m i)); decode = Adpcm want (a i) (l i) start })
     noSamples)
 
-module _ (s : Source) (w : WaveBuffer) (pos want : ℕ) where
+module _ (s : Source) (w : WaveBuffer) (start : Sample) (want : ℕ) where
   -- by the format
-  pub decode-none : want ≡ 0 → record { got = Samples 0; decode = Nothing } ≡ decodePlan s w pos want
+  pub decode-none : want ≡ 0 → record { got = Samples 0; decode = Nothing } ≡ decodePlan s w start want
   unfolding decodePlan
   decode-none h = rw (eq-eqb want 0 h)
 
-  pub decode-pcm16 : (want ≡ 0 → ⊥) → s .format ≡ 2 → pcmPlan 2 s w pos want ≡ decodePlan s w pos want
+  pub decode-pcm16 : (want ≡ 0 → ⊥) → s .format ≡ 2 → pcmPlan 2 s w start want ≡ decodePlan s w start want
   unfolding decodePlan
   decode-pcm16 h e = rw (ne-eqb want 0 h, e)
 
-  pub decode-float : (want ≡ 0 → ⊥) → s .format ≡ 5 → pcmPlan 4 s w pos want ≡ decodePlan s w pos want
+  pub decode-float : (want ≡ 0 → ⊥) → s .format ≡ 5 → pcmPlan 4 s w start want ≡ decodePlan s w start want
   unfolding decodePlan
   decode-float h e = rw (ne-eqb want 0 h, e)
 
-  pub decode-adpcm : (want ≡ 0 → ⊥) → s .format ≡ 6 → adpcmPlan s w pos want ≡ decodePlan s w pos want
+  pub decode-adpcm : (want ≡ 0 → ⊥) → s .format ≡ 6 → adpcmPlan s w start want ≡ decodePlan s w start want
   unfolding decodePlan
   decode-adpcm h e = rw (ne-eqb want 0 h, e)
 
   pub decode-other : (want ≡ 0 → ⊥) → (s .format ≡ 2 → ⊥) → (s .format ≡ 5 → ⊥) → (s .format ≡ 6 → ⊥)
-      → record { got = Samples want; decode = Silence want } ≡ decodePlan s w pos want
+      → record { got = Samples want; decode = Silence want } ≡ decodePlan s w start want
   unfolding decodePlan
   decode-other h h₂ h₅ h₆ = rw (ne-eqb want 0 h, ne-eqb (s .format) 2 h₂, ne-eqb (s .format) 5 h₅, ne-eqb (s .format) 6 h₆)
 
@@ -114,7 +124,7 @@ pub round-made : (q : Queue) (s : Source) (left : ℕ) {renews looped : Bool} {s
     → let w = bufferAt q (q .index) in
     renews ≡ renewsOf s w (q .offset) → looped ≡ inLoop (s .«buffers_v2») w (q .loops) → start ≡ cond looped (w .«loop_start») (w .start)
     → end ≡ cond looped (w .«loop_end») (w .end) → total ≡ end - start → room ≡ total - q .offset → want ≡ min left room
-    → pos ≡ (start + q .offset) % 2 ^ 32 → tried ≡ decodePlan s w pos want
+    → pos ≡ (start + q .offset) % 2 ^ 32 → tried ≡ decodePlan s w (sample pos) want
     → roundOf q s w total (record { renews = renews; context = w .context; decode = tried .decode }) (tried .got) ≡ roundPlan q s left
 unfolding roundPlan
 round-made q s left hr hl hs he ht ho hw hp hd =
@@ -124,5 +134,5 @@ round-made q s left hr hl hs he ht ho hw hp hd =
     let t′ = ht ∙ (λ j. e′ j - s′ j) in
     let w′ = hw ∙ (λ j. min left ((ho ∙ (λ k. t′ k - q .offset)) j)) in
     let p′ = hp ∙ (λ j. (s′ j + q .offset) % 2 ^ 32) in
-    let d′ = hd ∙ (λ j. decodePlan s w (p′ j) (w′ j)) in
+    let d′ = hd ∙ (λ j. decodePlan s w (sample (p′ j)) (w′ j)) in
     λ i. roundOf q s w (t′ i) (record { renews = hr i; context = w .context; decode = d′ i .decode }) (d′ i .got)

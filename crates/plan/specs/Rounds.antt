@@ -8,13 +8,13 @@ use Rattle.memory.specs.Memory.{readableOf}
 use Rattle.voice.specs.Queue.{bufferAt, endBuffer}
 use Rattle.voice.specs.declared.wave.WaveBuffer.{WaveBuffer}
 use Rattle.voice.specs.declared.queue.Queue.{Queue}
-use Rattle.plan.specs.Attempt.{decodePlan}
+use Rattle.plan.specs.Attempt.{sample, decodePlan}
 use Rattle.plan.specs.declared.Source.{Source}
 use Rattle.plan.specs.declared.Act.{Act}
 use Rattle.plan.specs.declared.attempt.Got.{Got}
 use Rattle.plan.specs.declared.attempt.Got.the-variants.{Missing, Samples}
 use Rattle.plan.specs.declared.rounds.Round.{Round}
-use Rattle.plan.specs.declared.rounds.Moved.{Moved}
+use Rattle.plan.specs.declared.after.Moved.{Moved}
 use Rattle.plan.specs.declared.rounds.Plan.{Plan}
 
 -- the 32 bits are a signed number above 0
@@ -99,7 +99,7 @@ roundPlan q s left =
     let end = cond looped (w .«loop_end») (w .end) in
     let total = end - start in
     let want = min left (total - q .offset) in
-    let tried = decodePlan s w ((start + q .offset) % 2 ^ 32) want in
+    let tried = decodePlan s w (sample ((start + q .offset) % 2 ^ 32)) want in
     roundOf q s w total (record { renews = renewsOf s w (q .offset); context = w .context; decode = tried .decode }) (tried .got)
 
 -- a round begins: samples are wanted, and the buffer that plays is valid

@@ -4,6 +4,7 @@ ghost use Prim.Native.Nat.{_-_, _≤_, _<_, _^_, min};
 ghost use Rattle.plan.specs.Attempt.{noSamples, pcmPlan, adpcmPlan, decodePlan};
 use crate::Decode;
 use crate::Source;
+use adpcm::Byte;
 use adpcm::Sample;
 use voice::WaveBuffer;
 
@@ -18,6 +19,7 @@ pub struct Attempt {
     pub decode: Decode,
 }
 
+// Nothing to be had.
 fn missing() -> Attempt
     ensures { λ r. ⌜ r ≡ noSamples ⌝ }
 {
@@ -27,19 +29,20 @@ fn missing() -> Attempt
     }
 }
 
-// PCM of a width in bytes: as many frames as the buffer has from pos on, at most want, if they can be read.
-fn plan_pcm(width: u32, s: Source, wb: WaveBuffer, pos: u32, want: u32) -> Attempt
+// PCM of a width in bytes: as many frames as the buffer has from start on, at most want, if they can be read.
+fn plan_pcm(width: u32, s: Source, wb: WaveBuffer, start: Sample, want: u32) -> Attempt
     requires { ⌜ (0 < width) × (width ≤ 4) ⌝ }
     requires { ⌜ (0 < s .channels) × (s .channels ≤ 6) ⌝ }
-    requires { ⌜ want ≤ 2 ^ 16 ⌝ }
-    ensures { λ r. ⌜ r ≡ pcmPlan width s wb pos want ⌝ }
+    requires { ⌜ (start .0 < 2 ^ 32) × (want ≤ 2 ^ 16) ⌝ }
+    ensures { λ r. ⌜ r ≡ pcmPlan width s wb start want ⌝ }
 {
     let frame = (width * s.channels) as u64;
-    let n = frames_left(wb.size / frame, pos as u64, want);
+    let frames = wb.size / frame;
+    let n = frames_left(start, Sample(frames), want);
     if n == 0 {
         return missing();
     }
-    let addr = std::num::wrapping_add_u64(wb.addr, pos as u64 * frame);
+    let addr = std::num::wrapping_add_u64(wb.addr, start.0 * frame);
     if memory::readable(s.base, s.size, addr, n as u64 * frame) {
         return Attempt {
             got: Got::Samples(n),
@@ -49,14 +52,11 @@ fn plan_pcm(width: u32, s: Source, wb: WaveBuffer, pos: u32, want: u32) -> Attem
     missing()
 }
 
-// The lesser of want and what is left of total from pos on.
-fn frames_left(total: u64, pos: u64, want: u32) -> u32
-    ensures { λ r. ⌜ r ≡ min want (total - pos) ⌝ }
+// The lesser of want and the frames from start up to end.
+fn frames_left(start: Sample, end: Sample, want: u32) -> u32
+    ensures { λ r. ⌜ r ≡ min want (end .0 - start .0) ⌝ }
 {
-    if total <= pos {
-        return 0;
-    }
-    let left = total - pos;
+    let left = end.past(start);
     if left < want as u64 {
         left as u32
     } else {
@@ -64,28 +64,28 @@ fn frames_left(total: u64, pos: u64, want: u32) -> u32
     }
 }
 
+// The lesser of two counts of bytes.
 fn least(a: u64, b: u64) -> u64
     ensures { λ r. ⌜ r ≡ min a b ⌝ }
 {
     if b < a { b } else { a }
 }
 
-// ADPCM: the bytes from the one that holds pos's nibble to the end of the wanted samples or of the buffer.
-fn plan_adpcm(s: Source, wb: WaveBuffer, pos: u32, want: u32) -> Attempt
-    requires { ⌜ want ≤ 2 ^ 16 ⌝ }
-    ensures { λ r. ⌜ r ≡ adpcmPlan s wb pos want ⌝ }
+// ADPCM: the bytes from the one that holds the start's nibble to the end of the wanted samples or of the buffer.
+fn plan_adpcm(s: Source, wb: WaveBuffer, start: Sample, want: u32) -> Attempt
+    requires { ⌜ (start .0 < 2 ^ 32) × (want ≤ 2 ^ 16) ⌝ }
+    ensures { λ r. ⌜ r ≡ adpcmPlan s wb start want ⌝ }
 {
-    let start = Sample(pos as u64);
-    let first = adpcm::adpcm_nibble_byte(start).0;
-    let last = least(adpcm::adpcm_size(start.plus(want as u64)).0, wb.size);
-    if last <= first {
+    let first = adpcm::adpcm_nibble_byte(start);
+    let wanted = adpcm::adpcm_size(start.plus(want as u64)).past(first);
+    let bytes = least(wanted, Byte(wb.size).past(first));
+    if bytes == 0 {
         return missing();
     }
-    let addr = std::num::wrapping_add_u64(wb.addr, first);
-    let bytes = last - first;
+    let addr = std::num::wrapping_add_u64(wb.addr, first.0);
     if memory::readable(s.base, s.size, addr, bytes) {
         let n = adpcm::adpcm_count(bytes, start, want);
-        let decode = Decode::Adpcm(addr, bytes, pos, want);
+        let decode = Decode::Adpcm(want, addr, bytes, start);
         if n == 0 {
             return Attempt {
                 got: Got::Missing,
@@ -100,11 +100,11 @@ fn plan_adpcm(s: Source, wb: WaveBuffer, pos: u32, want: u32) -> Attempt
     missing()
 }
 
-// What a decode of want samples from pos on gives.
-pub fn plan_decode(s: Source, wb: WaveBuffer, pos: u32, want: u32) -> Attempt
+// What a decode of want samples from start on gives.
+pub fn plan_decode(s: Source, wb: WaveBuffer, start: Sample, want: u32) -> Attempt
     requires { ⌜ (0 < s .channels) × (s .channels ≤ 6) ⌝ }
-    requires { ⌜ want ≤ 2 ^ 16 ⌝ }
-    ensures { λ r. ⌜ r ≡ decodePlan s wb pos want ⌝ }
+    requires { ⌜ (start .0 < 2 ^ 32) × (want ≤ 2 ^ 16) ⌝ }
+    ensures { λ r. ⌜ r ≡ decodePlan s wb start want ⌝ }
 {
     if want == 0 {
         return Attempt {
@@ -113,13 +113,13 @@ pub fn plan_decode(s: Source, wb: WaveBuffer, pos: u32, want: u32) -> Attempt
         };
     }
     if s.format == voice::PCM_INT16 {
-        return plan_pcm(2, s, wb, pos, want);
+        return plan_pcm(2, s, wb, start, want);
     }
     if s.format == voice::PCM_FLOAT {
-        return plan_pcm(4, s, wb, pos, want);
+        return plan_pcm(4, s, wb, start, want);
     }
     if s.format == voice::ADPCM {
-        return plan_adpcm(s, wb, pos, want);
+        return plan_adpcm(s, wb, start, want);
     }
     Attempt {
         got: Got::Samples(want),

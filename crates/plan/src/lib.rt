@@ -1,5 +1,6 @@
 // What `fetch` of mixer.rs reads and how it moves a voice's position, without a byte of sample memory: the plan of a fetch.
 // The crate `sound` performs a plan's acts on the bytes.
+mod after;
 mod attempt;
 mod rounds;
 
@@ -8,6 +9,7 @@ pub use attempt::plan_decode;
 pub use rounds::Plan;
 pub use rounds::plan_fetch;
 ghost use mathlib.Core.Path.{_≡_};
+use adpcm::Sample;
 
 // What a fetch takes from its voice and from the render and does not change: base and size are sample memory's.
 pub struct Source {
@@ -25,8 +27,8 @@ pub enum Decode {
     Nothing,
     // PCM of a width in bytes: width, address, samples.
     Pcm(u32, u64, u32),
-    // ADPCM on channel 0: address, bytes, the first sample's place, samples wanted.
-    Adpcm(u64, u64, u32, u32),
+    // ADPCM on channel 0: samples wanted, address, bytes, the first sample's place.
+    Adpcm(u32, u64, u64, Sample),
     // A format that is not known: samples.
     Silence(u32),
 }

@@ -2,11 +2,14 @@
 ghost use mathlib.Core.Path.{_≡_};
 ghost use mathlib.Core.Bool.{cond};
 ghost use Prim.Native.Nat.{_-_, _≤_, _<_, _^_, min};
-ghost use Rattle.plan.specs.Rounds.{isPositive, renewsOf, inLoop, loopsOver, resetsPlayed, afterMissing, endIf, afterLoop, spanOver, afterGot, roundPlan, more, hasTable, planned, planOf};
+ghost use Rattle.plan.specs.Rounds.{isPositive, renewsOf, inLoop, roundPlan, more, hasTable, planned, planOf};
 use crate::Act;
 use crate::Decode;
 use crate::Source;
+use crate::after::after_got;
+use crate::after::after_missing;
 use crate::attempt::Got;
+use adpcm::Sample;
 use voice::Queue;
 use voice::WaveBuffer;
 
@@ -24,12 +27,6 @@ pub struct Round {
     pub queue: Queue,
     pub got: u32,
     pub act: Act,
-    pub going: bool,
-}
-
-// What a round's samples make of the queue.
-pub struct Moved {
-    pub queue: Queue,
     pub going: bool,
 }
 
@@ -78,106 +75,6 @@ fn positive(x: u32) -> bool
     x < 0x8000_0000
 }
 
-// Whether a loop that has ended once more was the last: the limit is none below revision 8 or where it is negative.
-fn loops_over(buffers_v2: bool, limit: u32, loops: u32, got: u32) -> bool
-    ensures { λ r. ⌜ r ≡ loopsOver «buffers_v2» limit loops got ⌝ }
-{
-    if !buffers_v2 {
-        return false;
-    }
-    if limit >= 0x8000_0000 {
-        return false;
-    }
-    if got == 0 {
-        return true;
-    }
-    if loops >= 0x8000_0000 {
-        return false;
-    }
-    limit < loops
-}
-
-// A decode that is missing ends the buffer.
-fn after_missing(mut q: Queue) -> Queue
-    requires { ⌜ q .index < 4 ⌝ }
-    ensures { λ r. ⌜ r ≡ afterMissing q ⌝ }
-{
-    q.offset = 0;
-    voice::end_buffer(q)
-}
-
-// The buffer that plays has ended, where over says so.
-fn end_if(q: Queue, over: bool) -> Queue
-    requires { ⌜ q .index < 4 ⌝ }
-    ensures { λ r. ⌜ r ≡ endIf over q ⌝ }
-{
-    if over {
-        return voice::end_buffer(q);
-    }
-    q
-}
-
-// The end of a looping buffer's span: one loop more, and the buffer's end where that was the last.
-// Where nothing was got no other round follows.
-fn after_loop(mut q: Queue, s: Source, wb: WaveBuffer, got: u32) -> Queue
-    requires { ⌜ q .index < 4 ⌝ }
-    ensures { λ r. ⌜ r ≡ afterLoop q s wb got ⌝ }
-{
-    let loops = std::num::wrapping_add_u32(q.loops, 1);
-    let over = loops_over(s.buffers_v2, wb.loop_count, loops, got);
-    q.offset = 0;
-    q.loops = loops;
-    let mut ended = end_if(q, over);
-    if resets(s.decoding, got) {
-        ended.played = 0;
-    }
-    ended
-}
-
-// Whether a loop sets the count of what was played back to 0.
-fn resets(decoding: u32, got: u32) -> bool
-    ensures { λ r. ⌜ r ≡ resetsPlayed decoding got ⌝ }
-{
-    if got == 0 {
-        return false;
-    }
-    decoding % 2 != 0
-}
-
-// What the samples of a round, of a span of total, make of the queue.
-fn after_got(mut q: Queue, s: Source, wb: WaveBuffer, total: u32, got: u32) -> Moved
-    requires { ⌜ q .index < 4 ⌝ }
-    ensures { λ r. ⌜ r ≡ afterGot q s wb total got ⌝ }
-{
-    q.offset = std::num::wrapping_add_u32(q.offset, got);
-    q.played = std::num::wrapping_add_u64(q.played, got as u64);
-    if span_over(q.offset, total, got) {
-        if wb.looping {
-            return Moved {
-                queue: after_loop(q, s, wb, got),
-                going: got != 0,
-            };
-        }
-        return Moved {
-            queue: after_missing(q),
-            going: true,
-        };
-    }
-    Moved {
-        queue: q,
-        going: true,
-    }
-}
-
-fn span_over(offset: u32, total: u32, got: u32) -> bool
-    ensures { λ r. ⌜ r ≡ spanOver offset total got ⌝ }
-{
-    if total <= offset {
-        return true;
-    }
-    got == 0
-}
-
 // a - b, or 0 where b is more.
 fn saturating_sub(a: u32, b: u32) -> u32
     ensures { λ r. ⌜ r ≡ a - b ⌝ }
@@ -212,8 +109,8 @@ fn plan_round(q: Queue, s: Source, left: u32) -> Round
     let end = either(looped, wb.loop_end, wb.end);
     let total = saturating_sub(end, start);
     let want = least(left, saturating_sub(total, q.offset));
-    let pos = std::num::wrapping_add_u32(start, q.offset);
-    let tried = crate::plan_decode(s, wb, pos, want);
+    let pos = std::num::wrapping_add_u32(start, q.offset) as u64;
+    let tried = crate::plan_decode(s, wb, Sample(pos), want);
     let decode = tried.decode;
     let act = Act {
         renews,

@@ -53,7 +53,7 @@ module _ (s : Source) (m m′ : List ℕ) where
     decode-same (Pcm width addr n) k h =
         let e = h (span addr (n * (width * s .channels))) (List·Memᴰ·head refl) in
         λ i. record { adpcm = k .adpcm; out = k .out ++ pcmOf width (s .channels) c (e i) n }
-    decode-same (Adpcm addr bytes start want) k h = ap (λ (d : List ℕ). decodeAdpcm c d start want table k) (h (span addr bytes) (List·Memᴰ·head refl))
+    decode-same (Adpcm want addr bytes start) k h = ap (λ (d : List ℕ). decodeAdpcm c d start want table k) (h (span addr bytes) (List·Memᴰ·head refl))
     decode-same (Silence n) k h = refl
 
     -- the context that an act begins with

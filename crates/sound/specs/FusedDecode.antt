@@ -13,6 +13,7 @@ use Rattle.adpcm.specs.Places.{nibbleOf, sizeOf}
 use Rattle.adpcm.specs.Decode.{runOf}
 use Rattle.adpcm.specs.Runs.{countOf, run-count}
 use Rattle.adpcm.specs.declared.context.AdpcmContext.{AdpcmContext}
+use Rattle.adpcm.specs.declared.places.Sample.{Sample}
 use Rattle.floats.specs.Defs.{zero32}
 use Rattle.voice.specs.declared.wave.WaveBuffer.{WaveBuffer}
 use Rattle.plan.specs.declared.Source.{Source}
@@ -71,59 +72,59 @@ module _ (s : Source) (m : List ℕ) (table : List ℤ) (size : s .size ≡ leng
   unfolding decodeOn
   none-made g = λ i. record { got = g; adpcm = y 0; rows = (each-id 0 rows ∙ each-same _ _ (λ c r. sym (append-nil r)) 0 rows) i }
 
-  pcm-same : (width : ℕ) (w : WaveBuffer) (pos want : ℕ) → pcmFused width s m w pos want (y 0) rows ≡ made (pcmPlan width s w pos want)
+  pcm-same : (width : ℕ) (w : WaveBuffer) (start : Sample) (want : ℕ) → pcmFused width s m w (start .0) want (y 0) rows ≡ made (pcmPlan width s w start want)
   unfolding pcmFused pcmPlan decodeOn
-  pcm-same width w pos want =
+  pcm-same width w start want =
       let frame = width * s .channels in
-      let n = min want (w .size / frame - pos) in
-      let addr = (w .addr + pos * frame) % 2 ^ 64 in
+      let n = min want (w .size / frame - start .0) in
+      let addr = (w .addr + start .0 * frame) % 2 ^ 64 in
       by-cond made (eqb n 0) (λ e. none-made Missing)
       (λ e. by-read made (λ i. readableOf (s .base) (sym size i) addr (n * frame)) (λ r. refl) (λ r. none-made Missing))
 
   -- a row of an ADPCM read
-  row-same : (addr bytes start want : ℕ) (c : ℕ) (r : List Float)
-      → adpcmRow (runOf (readOf (s .base) m addr bytes) start want table (y 0) .samples) c r ≡ r ++ decodeOn s m table c (Adpcm addr bytes start want) (fresh (y c)) .out
+  row-same : (addr bytes : ℕ) (start : Sample) (want c : ℕ) (r : List Float)
+      → adpcmRow (runOf (readOf (s .base) m addr bytes) (start .0) want table (y 0) .samples) c r ≡ r ++ decodeOn s m table c (Adpcm want addr bytes start) (fresh (y c)) .out
   unfolding decodeOn decodeAdpcm
   row-same addr bytes start want zero r = refl
   row-same addr bytes start want (suc c) r =
-      ap (λ (n : ℕ). r ++ replicate n zero32) (run-count (readOf (s .base) m addr bytes) start want table (y 0))
+      ap (λ (n : ℕ). r ++ replicate n zero32) (run-count (readOf (s .base) m addr bytes) (start .0) want table (y 0))
 
   -- the samples that a read decodes to, as the plan counts them
-  adpcm-made : (addr bytes start want : ℕ) → readableOf (s .base) (s .size) addr bytes ≡ true
-      → (let run = runOf (readOf (s .base) m addr bytes) start want table (y 0) in
+  adpcm-made : (addr bytes : ℕ) (start : Sample) (want : ℕ) → readableOf (s .base) (s .size) addr bytes ≡ true
+      → (let run = runOf (readOf (s .base) m addr bytes) (start .0) want table (y 0) in
       let n = length (run .samples) in
       record { got = cond (eqb n 0) Missing (Samples n); adpcm = run .context; rows = eachRow (adpcmRow (run .samples)) 0 rows })
-      ≡ made (record { got = cond (eqb (countOf bytes start want) 0) Missing (Samples (countOf bytes start want)); decode = Adpcm addr bytes start want })
+      ≡ made (record { got = cond (eqb (countOf bytes (start .0) want) 0) Missing (Samples (countOf bytes (start .0) want)); decode = Adpcm want addr bytes start })
   unfolding decodeOn decodeAdpcm
   adpcm-made addr bytes start want h =
-      let run = runOf (readOf (s .base) m addr bytes) start want table (y 0) in
-      let e : length (run .samples) ≡ countOf bytes start want =
-      run-count (readOf (s .base) m addr bytes) start want table (y 0) ∙ ap (λ (n : ℕ). countOf n start want) (length-read (s .base) m addr bytes (rw size at h)) in
+      let run = runOf (readOf (s .base) m addr bytes) (start .0) want table (y 0) in
+      let e : length (run .samples) ≡ countOf bytes (start .0) want =
+      run-count (readOf (s .base) m addr bytes) (start .0) want table (y 0) ∙ ap (λ (n : ℕ). countOf n (start .0) want) (length-read (s .base) m addr bytes (rw size at h)) in
       λ i. record {
         got = cond (eqb (e i) 0) Missing (Samples (e i));
         adpcm = run .context;
-        rows = each-same (adpcmRow (run .samples)) (λ (c : ℕ) (r : List Float). r ++ decodeOn s m table c (Adpcm addr bytes start want) (fresh (y c)) .out) (row-same addr bytes start want) 0 rows i;
+        rows = each-same (adpcmRow (run .samples)) (λ (c : ℕ) (r : List Float). r ++ decodeOn s m table c (Adpcm want addr bytes start) (fresh (y c)) .out) (row-same addr bytes start want) 0 rows i;
       }
 
-  adpcm-same : (w : WaveBuffer) (pos want : ℕ) → adpcmFused s m table w pos want (y 0) rows ≡ made (adpcmPlan s w pos want)
+  adpcm-same : (w : WaveBuffer) (start : Sample) (want : ℕ) → adpcmFused s m table w (start .0) want (y 0) rows ≡ made (adpcmPlan s w start want)
   unfolding adpcmFused adpcmPlan
-  adpcm-same w pos want =
-      let first = nibbleOf pos / 2 in
-      let last = min (sizeOf (pos + want)) (w .size) in
+  adpcm-same w start want =
+      let first = nibbleOf (start .0) / 2 in
+      let last = min (sizeOf (start .0 + want)) (w .size) in
       let addr = (w .addr + first) % 2 ^ 64 in
       by-cond made (leb last first) (λ e. none-made Missing)
-      (λ e. by-read made (λ i. readableOf (s .base) (sym size i) addr (last - first)) (λ r. adpcm-made addr (last - first) pos want r) (λ r. none-made Missing))
+      (λ e. by-read made (λ i. readableOf (s .base) (sym size i) addr (last - first)) (λ r. adpcm-made addr (last - first) start want r) (λ r. none-made Missing))
 
   silence-made : (n : ℕ) → record { got = Samples n; adpcm = y 0; rows = eachRow (λ (c : ℕ) (r : List Float). r ++ replicate n zero32) 0 rows }
       ≡ made (record { got = Samples n; decode = Silence n })
   unfolding decodeOn
   silence-made n = refl
 
-  pub decode-same : (w : WaveBuffer) (pos want : ℕ) → decodeFused s m table w pos want (y 0) rows ≡ made (decodePlan s w pos want)
+  pub decode-same : (w : WaveBuffer) (start : Sample) (want : ℕ) → decodeFused s m table w (start .0) want (y 0) rows ≡ made (decodePlan s w start want)
   unfolding decodeFused decodePlan
-  decode-same w pos want =
+  decode-same w start want =
       by-cond made (eqb want 0) (λ e. none-made (Samples 0))
-      (λ e. split (λ (width : ℕ). pcmFused width s m w pos want (y 0) rows) (eqb (s .format) 2) (eqb (s .format) 5) _
-      ∙ by-cond made (eqb (s .format) 2) (λ f. pcm-same 2 w pos want)
-      (λ f. by-cond made (eqb (s .format) 5) (λ g. pcm-same 4 w pos want)
-      (λ g. by-cond made (eqb (s .format) 6) (λ h. adpcm-same w pos want) (λ h. silence-made want))))
+      (λ e. split (λ (width : ℕ). pcmFused width s m w (start .0) want (y 0) rows) (eqb (s .format) 2) (eqb (s .format) 5) _
+      ∙ by-cond made (eqb (s .format) 2) (λ f. pcm-same 2 w start want)
+      (λ f. by-cond made (eqb (s .format) 5) (λ g. pcm-same 4 w start want)
+      (λ g. by-cond made (eqb (s .format) 6) (λ h. adpcm-same w start want) (λ h. silence-made want))))

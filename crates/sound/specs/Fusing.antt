@@ -21,8 +21,8 @@ use Rattle.plan.specs.declared.Act.{Act}
 use Rattle.plan.specs.declared.attempt.Got.{Got}
 use Rattle.plan.specs.declared.attempt.Got.the-variants.{Missing, Samples}
 use Rattle.plan.specs.declared.rounds.Round.{Round}
-use Rattle.plan.specs.declared.rounds.Moved.{Moved}
-use Rattle.plan.specs.Attempt.{decodePlan}
+use Rattle.plan.specs.declared.after.Moved.{Moved}
+use Rattle.plan.specs.Attempt.{sample, decodePlan}
 use Rattle.plan.specs.Fits.{Fits, fits-none, fits-more, plan-made, plan-table}
 use Rattle.plan.specs.Rounds.{inLoop, at, renewsOf, loopsOver, resetsPlayed, resetIf, afterMissing, afterLoop, spanOver, afterGot, roundOf, roundPlan, more, Planned, grown, rounds, hasTable, planOf}
 use Rattle.sound.specs.Sound.{tableOf, Deck, perform, performAll, rowOf}
@@ -106,11 +106,11 @@ module _ (s : Source) (m : List ℕ) (table : List ℤ) (size : s .size ≡ leng
       let total = cond looped (w .«loop_end») (w .end) - start in
       let want = min (count - f .done) (total - q .offset) in
       let pos = (start + q .offset) % 2 ^ 32 in
-      let tried = decodePlan s w pos want in
+      let tried = decodePlan s w (sample pos) want in
       let act : Act = record { renews = renews; context = w .context; decode = tried .decode } in
       let read : ℕ → Bool = λ k. eqb (q .offset) 0 && (eqb (s .format) 6 && (not (eqb (w .context) 0) && readableOf (s .base) k (w .context) 6)) in
       let d : decodeFused s m table w pos want (cond (read (length m)) ctx (f .adpcm)) (f .rows) ≡ made s m table size (f .rows) y tried =
-      (λ i. decodeFused s m table w pos want (cond (read (sym size i)) ctx (sym e i)) (f .rows)) ∙ decode-same s m table size (f .rows) y w pos want in
+      (λ i. decodeFused s m table w pos want (cond (read (sym size i)) ctx (sym e i)) (f .rows)) ∙ decode-same s m table size (f .rows) y w (sample pos) want in
       (λ i. turnOf f s w total (d i) (d i .got)) ∙ turn-same f s w total (made s m table size (f .rows) y tried) act (tried .got)
       ∙ (λ i.
       let a = sym (act-of q s w total act (tried .got)) i in

@@ -1,6 +1,6 @@
 -- What one act writes into a row, and where. Assumes nothing.
 use Prim.Native.Nat.{ℕ, zero, suc, _+_, _*_, _≤_}
-use mathlib.Core.Bool.{Bool, true, cond, _||_}
+use mathlib.Core.Bool.{Bool, true, false, cond, _||_}
 use mathlib.Core.List.{List, [], _++_, append-nil}
 use mathlib.Core.Path.{_≡_, refl, ap, sym, _∙_}
 use lib.Ieee.{Float, binary32, ofInt}
@@ -8,7 +8,8 @@ use lib.IntN.{ℤ}
 use lib.ListN.{length, take, drop, replicate, length-map, length-replicate}
 use lib.Seq.{drop-drop}
 use lib.Dec.{eqb}
-use borrow.Author.Tests.{eqb-true, ne-eqb}
+use native.Mathlib.Omega.{arith}
+use borrow.Author.Tests.{eqb-true, eqb-false, ne-eqb}
 use Rattle.memory.specs.Memory.{readOf}
 use Rattle.memory.specs.Laws.{length-read}
 use Rattle.adpcm.specs.Context.{contextOf}
@@ -16,6 +17,7 @@ use Rattle.adpcm.specs.Decode.{runOf, floated, Decodes}
 use Rattle.adpcm.specs.Runs.{countOf, run-count}
 use Rattle.floats.specs.Defs.{zero32}
 use Rattle.adpcm.specs.declared.context.AdpcmContext.{AdpcmContext}
+use Rattle.adpcm.specs.declared.places.Sample.{Sample}
 use Rattle.plan.specs.declared.Source.{Source}
 use Rattle.plan.specs.declared.Act.{Act}
 use Rattle.plan.specs.declared.Decode.{Decode}
@@ -64,10 +66,11 @@ pub record PerformedAt (at : ℕ) (k : Deck) (before after : List Float) (made :
 pub four-wide : {w : ℕ} → eqb w 2 || eqb w 4 ≡ true → (w ≡ 2 → ⊥) → w ≡ 4
 four-wide {w} h n = eqb-true w 4 (rw (ne-eqb w 2 n) at h)
 
--- frames that were read as a width's are the width's
-pub pcm-as : (s : Source) (m : List ℕ) (addr n c : ℕ) (rest : List Float) {width w : ℕ} {d : List ℕ} → width ≡ w → d ≡ readOf (s .base) m addr (n * (w * s .channels))
-    → pcmOf w (s .channels) c d n ++ rest ≡ pcmOf width (s .channels) c (readOf (s .base) m addr (n * (width * s .channels))) n ++ rest
-pcm-as s m addr n c rest e f = λ i. pcmOf (sym e i) (s .channels) c ((f ∙ (λ j. readOf (s .base) m addr (n * (sym e j * s .channels)))) i) n ++ rest
+pub wide-le : (w : ℕ) → eqb w 2 || eqb w 4 ≡ true → w ≤ 4
+wide-le w h = by-width (eqb w 2) refl where
+  by-width : (b : Bool) → eqb w 2 ≡ b → w ≤ 4
+  by-width true e = omega (arith, eqb-true w 2 e)
+  by-width false e = omega (arith, four-wide h (eqb-false w 2 e))
 
 length-pcm : (width channels c : ℕ) (d : List ℕ) (n : ℕ) → length (pcmOf width channels c d n) ≡ n
 unfolding pcmOf
@@ -80,21 +83,21 @@ front : (o before after : List Float) {n : ℕ} {x y : AdpcmContext} → length 
     → Performed (record { adpcm = x; out = o }) before after n y
 front o before after h e f = record { count = sym h; context = e; output = f }
 
-pub adpcm-first : {c : ℕ} {d e : List ℕ} (start want : ℕ) (table : List ℤ) (x : AdpcmContext) {y : AdpcmContext} {before after : List Float} {n : ℕ} → c ≡ 0 → d ≡ e
-    → Decodes (runOf d start want table x) before after n y → Performed (decodeAdpcm c e start want table (fresh x)) before after n y
+pub adpcm-first : {c : ℕ} {d e : List ℕ} (start : Sample) (want : ℕ) (table : List ℤ) (x : AdpcmContext) {y : AdpcmContext} {before after : List Float} {n : ℕ} → c ≡ 0 → d ≡ e
+    → Decodes (runOf d (start .0) want table x) before after n y → Performed (decodeAdpcm c e start want table (fresh x)) before after n y
 unfolding decodeAdpcm
 adpcm-first {d = d} start want table x {before = before} {after} {n} h g r =
     rw (h, ← g)
-    (front (floated (runOf d start want table x .samples)) before after (length-map (runOf d start want table x .samples) _ ∙ sym (r .count)) (r .context)
-    (r .output ∙ (λ i. floated (runOf d start want table x .samples) ++ drop (sym (r .count) i) before)))
+    (front (floated (runOf d (start .0) want table x .samples)) before after (length-map (runOf d (start .0) want table x .samples) _ ∙ sym (r .count)) (r .context)
+    (r .output ∙ (λ i. floated (runOf d (start .0) want table x .samples) ++ drop (sym (r .count) i) before)))
 
-pub adpcm-others : (c : ℕ) (d : List ℕ) (start want : ℕ) (table : List ℤ) (x : AdpcmContext) {before after : List Float} {bytes n : ℕ} → (c ≡ 0 → ⊥) → length d ≡ bytes
-    → n ≡ countOf bytes start want → after ≡ replicate n zero32 ++ drop n before → Performed (decodeAdpcm c d start want table (fresh x)) before after n x
+pub adpcm-others : (c : ℕ) (d : List ℕ) (start : Sample) (want : ℕ) (table : List ℤ) (x : AdpcmContext) {before after : List Float} {bytes n : ℕ} → (c ≡ 0 → ⊥) → length d ≡ bytes
+    → n ≡ countOf bytes (start .0) want → after ≡ replicate n zero32 ++ drop n before → Performed (decodeAdpcm c d start want table (fresh x)) before after n x
 unfolding decodeAdpcm
 adpcm-others zero d start want table x h l e f = absurd (h refl)
 adpcm-others (suc c) d start want table x {before} {after} {bytes} {n} h l e f =
-    let m : n ≡ countOf (length d) start want = e ∙ (λ i. countOf (sym l i) start want) in
-    front (replicate (countOf (length d) start want) zero32) before after (length-replicate _ zero32 ∙ sym m) refl (f ∙ (λ i. replicate (m i) zero32 ++ drop n before))
+    let m : n ≡ countOf (length d) (start .0) want = e ∙ (λ i. countOf (sym l i) (start .0) want) in
+    front (replicate (countOf (length d) (start .0) want) zero32) before after (length-replicate _ zero32 ∙ sym m) refl (f ∙ (λ i. replicate (m i) zero32 ++ drop n before))
 
 -- ---- a decode
 
@@ -109,7 +112,7 @@ module _ (s : Source) (m : List ℕ) (table : List ℤ) (c : ℕ) (x : AdpcmCont
   unfolding decodeOn
   on-pcm width addr n {before} {after} e f = rw e (front _ before after (length-pcm width (s .channels) c _ n) refl f)
 
-  pub on-adpcm : (addr bytes start want : ℕ) {before after : List Float} {n : ℕ} {y : AdpcmContext} → d ≡ Adpcm addr bytes start want
+  pub on-adpcm : (addr bytes : ℕ) (start : Sample) (want : ℕ) {before after : List Float} {n : ℕ} {y : AdpcmContext} → d ≡ Adpcm want addr bytes start
       → Performed (decodeAdpcm c (readOf (s .base) m addr bytes) start want table (fresh x)) before after n y
       → Performed (decodeOn s m table c d (fresh x)) before after n y
   unfolding decodeOn
@@ -126,8 +129,8 @@ pub decode-after : (s : Source) (m : List ℕ) (table : List ℤ) (c : ℕ) (d :
 unfolding decodeOn decodeAdpcm
 decode-after s m table c Nothing x o = λ i. record { adpcm = x; out = sym (append-nil o) i }
 decode-after s m table c (Pcm width addr n) x o = refl
-decode-after s m table zero (Adpcm addr bytes start want) x o = refl
-decode-after s m table (suc c) (Adpcm addr bytes start want) x o = refl
+decode-after s m table zero (Adpcm want addr bytes start) x o = refl
+decode-after s m table (suc c) (Adpcm want addr bytes start) x o = refl
 decode-after s m table c (Silence n) x o = refl
 
 -- there are as many as the plan says
@@ -136,10 +139,10 @@ pub decode-count : (s : Source) (m : List ℕ) (table : List ℤ) (c : ℕ) (d :
 unfolding decodeOn decodeAdpcm
 decode-count s m table c Nothing x h r = refl
 decode-count s m table c (Pcm width addr n) x h r = length-pcm width (s .channels) c _ n
-decode-count s m table zero (Adpcm addr bytes start want) x h r =
-    length-map (runOf (readOf (s .base) m addr bytes) start want table x .samples) (ofInt binary32) ∙ run-count (readOf (s .base) m addr bytes) start want table x ∙ ap (λ (n : ℕ). countOf n start want) (length-read (s .base) m addr bytes (rw h at r))
-decode-count s m table (suc c) (Adpcm addr bytes start want) x h r =
-    length-replicate _ zero32 ∙ ap (λ (n : ℕ). countOf n start want) (length-read (s .base) m addr bytes (rw h at r))
+decode-count s m table zero (Adpcm want addr bytes start) x h r =
+    length-map (runOf (readOf (s .base) m addr bytes) (start .0) want table x .samples) (ofInt binary32) ∙ run-count (readOf (s .base) m addr bytes) (start .0) want table x ∙ ap (λ (n : ℕ). countOf n (start .0) want) (length-read (s .base) m addr bytes (rw h at r))
+decode-count s m table (suc c) (Adpcm want addr bytes start) x h r =
+    length-replicate _ zero32 ∙ ap (λ (n : ℕ). countOf n (start .0) want) (length-read (s .base) m addr bytes (rw h at r))
 decode-count s m table c (Silence n) x h r = length-replicate n zero32
 
 module _ {s : Source} {m : List ℕ} {d e : Decode} {out : List Float} (h : d ≡ e) (r : Room s m d out) where
@@ -161,6 +164,6 @@ performed-at s m table c a x at {row} {part} {after} {whole} {n} e f g p =
     }
 
 -- the bytes of an ADPCM read are all there
-pub room-length : {s : Source} {m : List ℕ} {addr bytes start want : ℕ} {out : List Float} → Room s m (Adpcm addr bytes start want) out
+pub room-length : {s : Source} {m : List ℕ} {addr bytes want : ℕ} {start : Sample} {out : List Float} → Room s m (Adpcm want addr bytes start) out
     → length (readOf (s .base) m addr bytes) ≡ bytes
 room-length {s} {m} {addr} {bytes} r = length-read (s .base) m addr bytes (rw (r .size) at (r .reads))

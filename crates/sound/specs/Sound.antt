@@ -13,6 +13,7 @@ use Rattle.adpcm.specs.Context.{contextOf, coefficientsOf}
 use Rattle.adpcm.specs.Decode.{runOf, floated}
 use Rattle.adpcm.specs.Runs.{countOf}
 use Rattle.adpcm.specs.declared.context.AdpcmContext.{AdpcmContext}
+use Rattle.adpcm.specs.declared.places.Sample.{Sample}
 use Rattle.plan.specs.declared.Source.{Source}
 use Rattle.plan.specs.declared.Act.{Act}
 use Rattle.plan.specs.declared.Decode.{Decode}
@@ -43,16 +44,16 @@ pub record Deck : Type 0 where
   pub out : List Float
 
 -- ADPCM is decoded on channel 0; the others get as many zeros
-unfoldable pub decodeAdpcm : ℕ → List ℕ → ℕ → ℕ → List ℤ → Deck → Deck
-decodeAdpcm zero d start want table k = let r = runOf d start want table (k .adpcm) in record { adpcm = r .context; out = k .out ++ floated (r .samples) }
-decodeAdpcm (suc c) d start want table k = record { adpcm = k .adpcm; out = k .out ++ replicate (countOf (length d) start want) zero32 }
+unfoldable pub decodeAdpcm : ℕ → List ℕ → Sample → ℕ → List ℤ → Deck → Deck
+decodeAdpcm zero d start want table k = let r = runOf d (start .0) want table (k .adpcm) in record { adpcm = r .context; out = k .out ++ floated (r .samples) }
+decodeAdpcm (suc c) d start want table k = record { adpcm = k .adpcm; out = k .out ++ replicate (countOf (length d) (start .0) want) zero32 }
 
 unfoldable pub decodeOn : Source → List ℕ → List ℤ → ℕ → Decode → Deck → Deck
 unfolding decodeAdpcm pcmOf
 decodeOn s m table c Nothing k = k
 decodeOn s m table c (Pcm width addr n) k =
     record { adpcm = k .adpcm; out = k .out ++ pcmOf width (s .channels) c (readOf (s .base) m addr (n * (width * s .channels))) n }
-decodeOn s m table c (Adpcm addr bytes start want) k = decodeAdpcm c (readOf (s .base) m addr bytes) start want table k
+decodeOn s m table c (Adpcm want addr bytes start) k = decodeAdpcm c (readOf (s .base) m addr bytes) start want table k
 decodeOn s m table c (Silence n) k = record { adpcm = k .adpcm; out = k .out ++ replicate n zero32 }
 
 -- an act: a context that is read first, then the decode

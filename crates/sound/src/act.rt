@@ -25,7 +25,7 @@ pub struct Played {
 fn play_adpcm(
     addr: u64,
     bytes: u64,
-    pos: u32,
+    start: Sample,
     want: u32,
     s: Source,
     memory: &[u8],
@@ -34,10 +34,9 @@ fn play_adpcm(
     c: u32,
     out: &mut [f32],
 ) -> Played
-    requires { ⌜ Room s (now memory) (Adpcm addr bytes pos want) (now out) ⌝ }
-    ensures { λ r. ⌜ Performed (decodeAdpcm c (readOf (s .base) (now (memory .entry)) addr bytes) pos want (now (coefficients .entry)) (fresh x)) (now (out .entry)) (now (out .exit)) (r .made) (r .adpcm) ⌝ }
+    requires { ⌜ Room s (now memory) (Adpcm want addr bytes start) (now out) ⌝ }
+    ensures { λ r. ⌜ Performed (decodeAdpcm c (readOf (s .base) (now (memory .entry)) addr bytes) start want (now (coefficients .entry)) (fresh x)) (now (out .entry)) (now (out .exit)) (r .made) (r .adpcm) ⌝ }
 {
-    let start = Sample(pos as u64);
     if c == 0 {
         let d = memory::read(memory, s.base, addr, bytes);
         let r = adpcm::decode_adpcm(d, start, want as usize, coefficients, x, out);
@@ -74,8 +73,8 @@ fn play_decode(
                 adpcm: x,
             }
         }
-        Decode::Adpcm(addr, bytes, pos, want) => {
-            play_adpcm(addr, bytes, pos, want, s, memory, coefficients, x, c, out)
+        Decode::Adpcm(want, addr, bytes, start) => {
+            play_adpcm(addr, bytes, start, want, s, memory, coefficients, x, c, out)
         }
         Decode::Silence(n) => {
             zeros(n as usize, out);

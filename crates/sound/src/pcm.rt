@@ -32,26 +32,26 @@ fn float_at(d: &[u8], o: usize) -> f32
     fields::f32_at(d, o) * 32768.0
 }
 
-// Channel c of n frames of 16-bit samples, into the front of out.
-fn int16(d: &[u8], channels: usize, c: usize, n: usize, out: &mut [f32])
-    requires { ⌜ (channels ≤ 6) × (c < 2 ^ 32) × (n < 2 ^ 32) × (n ≤ length (now out)) ⌝ }
-    ensures { λ _. ⌜ now (out .exit) ≡ pcmOf 2 channels c (now (d .entry)) n ++ drop n (now (out .entry)) ⌝ }
+// A sample of a width in bytes.
+fn sample_at(width: usize, d: &[u8], o: usize) -> f32
+    requires { ⌜ eqb width 2 || eqb width 4 ≡ true ⌝ }
+    ensures { λ r. ⌜ r ≡ pcmAt width (now (d .entry)) o ⌝ }
 {
-    let mut j = 0usize;
-    while j < n {
-        out[j] = int16_at(d, place(j, channels, c, 2));
-        j += 1;
+    if width == 2 {
+        return int16_at(d, o);
     }
+    float_at(d, o)
 }
 
-// Channel c of n frames of float samples, into the front of out.
-fn float(d: &[u8], channels: usize, c: usize, n: usize, out: &mut [f32])
+// Channel c of n frames of samples of a width, into the front of out.
+fn frames(width: usize, d: &[u8], channels: usize, c: usize, n: usize, out: &mut [f32])
+    requires { ⌜ eqb width 2 || eqb width 4 ≡ true ⌝ }
     requires { ⌜ (channels ≤ 6) × (c < 2 ^ 32) × (n < 2 ^ 32) × (n ≤ length (now out)) ⌝ }
-    ensures { λ _. ⌜ now (out .exit) ≡ pcmOf 4 channels c (now (d .entry)) n ++ drop n (now (out .entry)) ⌝ }
+    ensures { λ _. ⌜ now (out .exit) ≡ pcmOf width channels c (now (d .entry)) n ++ drop n (now (out .entry)) ⌝ }
 {
     let mut j = 0usize;
     while j < n {
-        out[j] = float_at(d, place(j, channels, c, 4));
+        out[j] = sample_at(width, d, place(j, channels, c, width));
         j += 1;
     }
 }
@@ -82,12 +82,14 @@ pub fn pcm(width: u32, addr: u64, n: u32, s: Source, memory: &[u8], c: u32, out:
     requires { ⌜ (eqb width 2 || eqb width 4 ≡ true) × (s .channels ≤ 6) × (n ≤ length (now out)) ⌝ }
     ensures { λ _. ⌜ now (out .exit) ≡ pcmOf width (s .channels) c (readOf (s .base) (now (memory .entry)) addr (n * (width * s .channels))) n ++ drop n (now (out .entry)) ⌝ }
 {
-    let channels = s.channels as usize;
-    if width == 2 {
-        let d = memory::read(memory, s.base, addr, n as u64 * (2 * s.channels as u64));
-        int16(d, channels, c as usize, n as usize, out);
-    } else {
-        let d = memory::read(memory, s.base, addr, n as u64 * (4 * s.channels as u64));
-        float(d, channels, c as usize, n as usize, out);
-    }
+    let frame = (width * s.channels) as u64;
+    let d = memory::read(memory, s.base, addr, n as u64 * frame);
+    frames(
+        width as usize,
+        d,
+        s.channels as usize,
+        c as usize,
+        n as usize,
+        out,
+    );
 }

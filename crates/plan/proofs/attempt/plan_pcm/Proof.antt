@@ -23,22 +23,31 @@ mul-frame c = omega (arith, frame-le (c .before))
 cast-frame : tie.Need-cast-frame
 cast-frame c = omega (arith, frame-le (c .before))
 
-div-frames-left : tie.Need-div-frames-left
-div-frames-left c = frame-some (c .before .before)
+div-frames : tie.Need-div-frames
+div-frames c = frame-some (c .before .before)
 
 frames-left-requires : tie.Need-frames-left-requires
 frames-left-requires c κs = search needs
+
+-- the function's start
+module _ (c : tie.After-frames-left) where
+  abbrev begun : tie.Start
+  begun = c .before .before .before
 
 missing-requires : tie.Need-missing-requires
 missing-requires c κs = search needs
 
 returns : tie.Need-returns
 returns c =
-    let p5 = c .before .before .before .before .before in
-    c .missing .ensures ∙ pcm-made (p5 .args .width) (p5 .args .s) (p5 .args .wb) (p5 .args .pos) (p5 .args .want) (c .before .before .frames-left .ensures) (eq-eqb _ 0 (c .before .if1 .taken)) refl refl
+    let l = c .before .before in
+    let a = begun l .args in
+    c .missing .ensures ∙ pcm-made (a .width) (a .s) (a .wb) (a .start) (a .want) (l .frames-left .ensures) (eq-eqb _ 0 (c .before .if1 .taken)) refl refl
 
 mul-wrapping-add-u64 : tie.Need-mul-wrapping-add-u64
-mul-wrapping-add-u64 c = let h : c .before .before .before .before .args .pos ≤ 2 ^ 32 = omega arith in omega (arith, mul-le-mul h (frame-le (c .before .before .before .before)))
+mul-wrapping-add-u64 c =
+    let b = begun (c .before .before) in
+    let h : b .args .start .0 ≤ 2 ^ 32 = omega (arith, b .pre .1 .1 .0) in
+    omega (arith, mul-le-mul h (frame-le b))
 
 wrapping-add-u64-requires : tie.Need-wrapping-add-u64-requires
 wrapping-add-u64-requires c κs = search needs
@@ -47,28 +56,32 @@ cast-readable : tie.Need-cast-readable
 cast-readable c = search needs
 
 mul-readable : tie.Need-mul-readable
-mul-readable c = let h : c .before .before .frames-left .result ≤ 2 ^ 16 = omega (arith, c .before .before .frames-left .ensures) in omega (arith, mul-le-mul h (frame-le (c .before .before .before .before .before)))
+mul-readable c =
+    let l = c .before .before .before in
+    let h : l .frames-left .result ≤ 2 ^ 16 = omega (arith, l .frames-left .ensures, begun l .pre .1 .1 .1) in
+    omega (arith, mul-le-mul h (frame-le (begun l)))
 
 readable-requires : tie.Need-readable-requires
 readable-requires c κs = search needs
 
 returns-2 : tie.Need-returns-2
 returns-2 c =
-    let p3 = c .before .before .before in
-    let p4 = p3 .before in
-    let p7 = p4 .before .before .before in
-    pcm-made (p7 .args .width) (p7 .args .s) (p7 .args .wb) (p7 .args .pos) (p7 .args .want) (p4 .frames-left .ensures) (ne-eqb _ 0 (p3 .if1 .left)) (c .before .before .wrapping-add-u64 .ensures) (sym (c .before .readable .ensures) ∙ c .if2 .taken)
+    let l = c .before .before .before .before .before in
+    let a = begun l .args in
+    pcm-made (a .width) (a .s) (a .wb) (a .start) (a .want) (l .frames-left .ensures) (ne-eqb _ 0 (c .before .before .before .before .if1 .left)) (c .before .before .wrapping-add-u64 .ensures)
+    (sym (c .before .readable .ensures) ∙ c .if2 .taken)
 
 missing-requires-2 : tie.Need-missing-requires-2
 missing-requires-2 c κs = search needs
 
 returns-3 : tie.Need-returns-3
 returns-3 c =
-    let p3 = c .before .before .before in
-    let p4 = p3 .before in
-    let p5 = p4 .before in
-    let p8 = p5 .before .before .before in
-    c .missing2 .ensures ∙ pcm-made (p8 .args .width) (p8 .args .s) (p8 .args .wb) (p8 .args .pos) (p8 .args .want) (p5 .frames-left .ensures) (ne-eqb _ 0 (p4 .if1 .left)) (p3 .wrapping-add-u64 .ensures) (sym (c .before .before .readable .ensures) ∙ c .before .if2 .left)
+    let r = c .before .before in
+    let l = r .before .before .before .before in
+    let a = begun l .args in
+    c .missing2 .ensures
+    ∙ pcm-made (a .width) (a .s) (a .wb) (a .start) (a .want) (l .frames-left .ensures) (ne-eqb _ 0 (r .before .before .before .if1 .left)) (r .before .wrapping-add-u64 .ensures)
+    (sym (r .readable .ensures) ∙ c .before .if2 .left)
 
 pub plan-pcm-spec : {M : Type 1} → statement M
 plan-pcm-spec =
@@ -76,7 +89,7 @@ plan-pcm-spec =
     (tie.spec
     mul-frame
     cast-frame
-    div-frames-left
+    div-frames
     frames-left-requires
     missing-requires
     returns

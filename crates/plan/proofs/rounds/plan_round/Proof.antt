@@ -44,6 +44,9 @@ least-requires c κs = search needs
 wrapping-add-u32-requires : tie.Need-wrapping-add-u32-requires
 wrapping-add-u32-requires c κs = search needs
 
+cast-pos : tie.Need-cast-pos
+cast-pos c = search needs
+
 plan-decode-requires : tie.Need-plan-decode-requires
 plan-decode-requires c κs = search needs
 
@@ -108,6 +111,7 @@ plan-round-spec =
     saturating-sub-requires-2
     least-requires
     wrapping-add-u32-requires
+    cast-pos
     plan-decode-requires
     enum-told
     after-missing-requires

@@ -1,7 +1,7 @@
 -- `plan::end_if` meets its contract: each way out is a case of the test. Assumes nothing.
 use borrow.Author.Needs.{needs}
-use Rattle.plan.proofs.rounds.end_if.Statement.{statement}
-use Rattle.plan.proofs.rounds.end_if.Tie as tie
+use Rattle.plan.proofs.after.end_if.Statement.{statement}
+use Rattle.plan.proofs.after.end_if.Tie as tie
 
 end-buffer-requires : tie.Need-end-buffer-requires
 end-buffer-requires c κs = search needs

@@ -1,8 +1,8 @@
 -- `plan::after_missing` meets its contract: it ends the buffer at offset 0. Assumes nothing.
 use borrow.Author.Needs.{needs}
 use Rattle.plan.specs.Rounds.{afterMissing}
-use Rattle.plan.proofs.rounds.after_missing.Statement.{statement}
-use Rattle.plan.proofs.rounds.after_missing.Tie as tie
+use Rattle.plan.proofs.after.after_missing.Statement.{statement}
+use Rattle.plan.proofs.after.after_missing.Tie as tie
 
 end-buffer-requires : tie.Need-end-buffer-requires
 end-buffer-requires c κs = search needs

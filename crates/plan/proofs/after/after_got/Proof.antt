@@ -2,8 +2,8 @@
 use mathlib.Core.Path.{refl, sym, _∙_}
 use borrow.Author.Needs.{needs}
 use Rattle.plan.specs.Laws.{got-made}
-use Rattle.plan.proofs.rounds.after_got.Statement.{statement}
-use Rattle.plan.proofs.rounds.after_got.Tie as tie
+use Rattle.plan.proofs.after.after_got.Statement.{statement}
+use Rattle.plan.proofs.after.after_got.Tie as tie
 
 wrapping-add-u32-requires : tie.Need-wrapping-add-u32-requires
 wrapping-add-u32-requires c κs = search needs

@@ -1,8 +1,8 @@
 -- `plan::loops_over` meets its contract: each way out is a case of the tests. Assumes nothing.
 use borrow.Author.Tests.{not-true, not-false, eq-eqb, ne-eqb, lt-ltb, le-ltb}
 use Rattle.plan.specs.Rounds.{loopsOver}
-use Rattle.plan.proofs.rounds.loops_over.Statement.{statement}
-use Rattle.plan.proofs.rounds.loops_over.Tie as tie
+use Rattle.plan.proofs.after.loops_over.Statement.{statement}
+use Rattle.plan.proofs.after.loops_over.Tie as tie
 
 returns : tie.Need-returns
 unfolding loopsOver

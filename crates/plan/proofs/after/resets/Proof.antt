@@ -1,8 +1,8 @@
 -- `plan::resets` meets its contract: each way out is a case of the tests. Assumes nothing.
 use borrow.Author.Tests.{eq-eqb, ne-eqb}
 use Rattle.plan.specs.Rounds.{resetsPlayed}
-use Rattle.plan.proofs.rounds.resets.Statement.{statement}
-use Rattle.plan.proofs.rounds.resets.Tie as tie
+use Rattle.plan.proofs.after.resets.Statement.{statement}
+use Rattle.plan.proofs.after.resets.Tie as tie
 
 returns : tie.Need-returns
 unfolding resetsPlayed

@@ -1,8 +1,8 @@
 -- `plan::span_over` meets its contract: each way out is a case of the tests. Assumes nothing.
 use borrow.Author.Tests.{le-leb, lt-leb}
 use Rattle.plan.specs.Rounds.{spanOver}
-use Rattle.plan.proofs.rounds.span_over.Statement.{statement}
-use Rattle.plan.proofs.rounds.span_over.Tie as tie
+use Rattle.plan.proofs.after.span_over.Statement.{statement}
+use Rattle.plan.proofs.after.span_over.Tie as tie
 
 returns : tie.Need-returns
 unfolding spanOver
