@@ -11,3 +11,5 @@ pub mod Opens
 pub mod Secrecy
 pub mod Kept
 pub mod Range
+pub mod Computing
+pub mod Inputs

@@ -7,8 +7,8 @@ use lib.ListN.{replicate}
 use Rattle.alike.specs.Reads.{Span, span}
 use Rattle.secrecy.specs.Sessions.{Call, render}
 use Rattle.secrecy.specs.Declared.{Within, declared}
-use Rattle.secrecy_examples.specs.Computing.{computing}
-use Rattle.secrecy_examples.specs.Inputs.{Field, noMix, noSplitter, newVoice, unusedVoice, wave, revision, start, updating, refused, base, rendering, pcmVoice, pcmLater, adpcmVoice}
+use Rattle.secrecy.specs.Computing.{computing}
+use Rattle.secrecy.specs.Inputs.{Field, noMix, noSplitter, newVoice, unusedVoice, wave, revision, start, startFor, updating, updatingAll, refused, base, rendering, pcmVoice, pcmLater, adpcmVoice}
 
 -- what the voice has declared by call r
 abbrev pub by : ℕ → List Call → List Span
@@ -40,17 +40,17 @@ spansOf source addr size context =
 
 -- by a record in use, also of a voice that is not routed
 pub used : by 0 (updating (newVoice 0x10 noMix noSplitter fourWaves) ∷ []) ≡ fourSpans
-unfolding computing start updating
+unfolding computing startFor updatingAll
 used = refl
 
 -- a later record adds to it
 pub twice : by 1 (updating (newVoice 0x10 noMix noSplitter fourWaves) ∷ pcmLater 0 ∷ []) ≡ fourSpans ++ spansOf 0 0 0 0
-unfolding computing start updating
+unfolding computing startFor updatingAll
 twice = refl
 
 -- by a record that is not in use, and by an update that is refused
 pub none : (by 0 (updating (unusedVoice 0x10 0 noSplitter fourWaves) ∷ []) ≡ []) × (by 0 (refused (newVoice 0x10 0 noSplitter fourWaves) ∷ []) ≡ [])
-unfolding computing start updating refused
+unfolding computing startFor updatingAll refused
 none = (refl, refl)
 
 -- addresses go round
@@ -76,22 +76,22 @@ adpcmRender = rendering (replicate 48 0)
 pub pcm-reads : (by 1 (pcmVoice 0 ∷ pcmRender ∷ []) ≡ pcmSpans ++ (span base 4 ∷ []))
     × (by 2 (pcmVoice 0 ∷ pcmRender ∷ pcmRender ∷ []) ≡ pcmSpans ++ (span base 4 ∷ span (base + 4) 4 ∷ []))
     × (by 3 (pcmVoice 0 ∷ pcmRender ∷ pcmRender ∷ pcmRender ∷ []) ≡ pcmSpans ++ (span base 4 ∷ span (base + 4) 4 ∷ []))
-unfolding computing start updating rendering
+unfolding computing startFor updatingAll rendering
 pcm-reads = (refl, refl, refl)
 
 -- a voice that is not routed reads too
 pub unrouted-reads : by 1 (pcmVoice noMix ∷ pcmRender ∷ []) ≡ pcmSpans ++ (span base 4 ∷ [])
-unfolding computing start updating rendering
+unfolding computing startFor updatingAll rendering
 unrouted-reads = refl
 
 -- a read that fails, and a render that is refused
 pub no-reads : (by 1 (pcmVoice 0 ∷ rendering (replicate 3 0) ∷ []) ≡ pcmSpans) × (by 1 (pcmVoice 0 ∷ render base (replicate 8 0) [] ∷ []) ≡ pcmSpans)
-unfolding computing start updating rendering
+unfolding computing startFor updatingAll rendering
 no-reads = (refl, refl)
 
 -- ADPCM: coefficients, context and samples; then coefficients and samples, since the voice has its context
 pub adpcm-reads : (by 1 (adpcmVoice 0 ∷ adpcmRender ∷ []) ≡ adpcmSpans ++ (span base 32 ∷ span (base + 32) 6 ∷ span (base + 40) 2 ∷ []))
     × (by 2 (adpcmVoice 0 ∷ adpcmRender ∷ adpcmRender ∷ [])
     ≡ adpcmSpans ++ (span base 32 ∷ span (base + 32) 6 ∷ span (base + 40) 2 ∷ span base 32 ∷ span (base + 42) 1 ∷ []))
-unfolding computing start updating rendering
+unfolding computing startFor updatingAll rendering
 adpcm-reads = (refl, refl)

@@ -6,8 +6,8 @@ use lib.Ieee.{Float}
 use lib.ListN.{replicate}
 use Rattle.state.specs.State.{State}
 use Rattle.secrecy.specs.Sessions.{Call, after, framesAt}
-use Rattle.secrecy_examples.specs.Computing.{computing}
-use Rattle.secrecy_examples.specs.Inputs.{noMix, revision, start, desk, updating, rendering, pcmVoice, pcm, adpcmVoice, adpcm, frame, silence}
+use Rattle.secrecy.specs.Computing.{computing}
+use Rattle.secrecy.specs.Inputs.{noMix, revision, start, startFor, desk, updating, updatingAll, rendering, pcmVoice, pcm, adpcmVoice, adpcm, frame, silence}
 
 -- the frames of the second render, by the bytes of the first: what a render reads is heard in the next
 abbrev pub heard : State → Call → List ℕ → List Float
@@ -43,5 +43,5 @@ says =
     ∷ []
 
 pub right : gives (after (start (revision 2)) desk) ≡ says
-unfolding computing start desk updating rendering pcm adpcm gives
+unfolding computing startFor desk updatingAll rendering pcm adpcm gives
 right = refl

@@ -14,8 +14,8 @@ use Rattle.secrecy.specs.Sessions.{Call, Said, succeeds, stateAt, saidAll, fram
 use Rattle.secrecy.specs.Declared.{declared, routed}
 use Rattle.secrecy.specs.Demand.{AgreeOn, callAt, Condition}
 use Rattle.secrecy.specs.Secrecy.{demand3}
-use Rattle.secrecy_examples.specs.Computing.{computing}
-use Rattle.secrecy_examples.specs.Inputs.{word, long, laidFrom, noMix, params, revision, slices, start, desk, updating, rendering, pcmVoice, pcmLater, pcm, frame, silence}
+use Rattle.secrecy.specs.Computing.{computing}
+use Rattle.secrecy.specs.Inputs.{word, long, laidFrom, noMix, params, revision, slices, start, startFor, desk, updating, updatingAll, rendering, pcmVoice, pcmLater, pcm, frame, silence}
 
 -- the voice plays to no mix; a render; it is sent to mix 0; a render of zeros
 abbrev pub session : List ℕ → List Call
@@ -35,7 +35,7 @@ st = start (revision 2)
 
 -- the voice is routed by call 3, and not before
 pub routed-late : (routed st one 3 0 ≡ false) × (routed st one 4 0 ≡ true)
-unfolding computing start desk updating rendering pcm
+unfolding computing startFor desk updatingAll rendering pcm
 routed-late = (refl, refl)
 
 -- an update's answer, whose reply has what the voice has played; and a render's
@@ -56,24 +56,24 @@ answers = updated 0 ∷ updated 0 ∷ rendered 1 ∷ updated 2 ∷ rendered 1 �
 
 -- both sessions say the same
 pub one-said : saidAll st one ≡ answers
-unfolding computing start desk updating rendering pcm laidFrom
+unfolding computing startFor desk updatingAll rendering pcm laidFrom
 one-said = refl
 
 pub other-said : saidAll st other ≡ answers
-unfolding computing start desk updating rendering pcm laidFrom
+unfolding computing startFor desk updatingAll rendering pcm laidFrom
 other-said = refl
 
 -- nothing is heard at the first render, and its samples are heard at the last
 pub first-frames : (framesAt st one 2 ≡ silence ++ silence) × (framesAt st other 2 ≡ silence ++ silence)
-unfolding computing start desk updating rendering pcm
+unfolding computing startFor desk updatingAll rendering pcm
 first-frames = (refl, refl)
 
 pub one-frames : framesAt st one 4 ≡ frame 1 ++ frame 3
-unfolding computing start desk updating rendering pcm
+unfolding computing startFor desk updatingAll rendering pcm
 one-frames = refl
 
 pub other-frames : framesAt st other 4 ≡ frame 9 ++ frame 3
-unfolding computing start desk updating rendering pcm
+unfolding computing startFor desk updatingAll rendering pcm
 other-frames = refl
 
 -- ---- what follows
@@ -93,7 +93,7 @@ Early p s cs cs′ r =
 
 -- it holds, so it is not enough
 pub early : Early (params (revision 2)) st one other 4
-unfolding computing start desk updating rendering pcm
+unfolding computing startFor desk updatingAll rendering pcm
 early zero l k inside t s = tt
 early (suc zero) l k inside t s = tt
 early (suc (suc zero)) l zero inside t s = absurd t
@@ -104,5 +104,5 @@ early (suc (suc (suc (suc (suc j))))) l k inside t s = absurd (omega arith)
 
 -- demand 3's own does not hold
 pub unfair : Condition (params (revision 2)) st one other 4 → ⊥
-unfolding computing start desk updating rendering pcm
+unfolding computing startFor desk updatingAll rendering pcm
 unfair condition = frames-differ (demand3 (params (revision 2)) slices slices refl refl one other refl .frames 4 condition)

@@ -1,5 +1,3 @@
-pub mod Computing
-pub mod Inputs
 pub mod Routed
 pub mod Declared
 pub mod Heard

@@ -6,8 +6,8 @@ use Prim.Native.Nat.{ℕ}
 use lib.ListN.{replicate}
 use Rattle.secrecy.specs.Sessions.{Call, Said, saidAll}
 use Rattle.secrecy.specs.Declared.{routed}
-use Rattle.secrecy_examples.specs.Computing.{computing}
-use Rattle.secrecy_examples.specs.Inputs.{noMix, noSplitter, newVoice, unusedVoice, revision, start, updating, refused, rendering}
+use Rattle.secrecy.specs.Computing.{computing}
+use Rattle.secrecy.specs.Inputs.{noMix, noSplitter, newVoice, unusedVoice, revision, start, startFor, updating, updatingAll, refused, rendering}
 
 -- an update by a record in use, and by one that is not, to a mix and a splitter
 abbrev pub to : ℕ → ℕ → Call
@@ -52,10 +52,10 @@ no =
     ∷ []
 
 pub right : (yes ≡ replicate 8 true) × (no ≡ replicate 8 false)
-unfolding computing start updating refused rendering yes no
+unfolding computing startFor updatingAll refused rendering yes no
 right = (refl, refl)
 
 -- that update is refused by 6
 pub refusal : map (λ (s : Said). s .number) (saidAll (start (revision 2)) (refused (newVoice 0 0 noSplitter []) ∷ to 0 noSplitter ∷ [])) ≡ 6 ∷ 0 ∷ []
-unfolding computing start updating refused
+unfolding computing startFor updatingAll refused
 refusal = refl

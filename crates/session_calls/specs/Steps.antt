@@ -1,126 +1,70 @@
--- A call of a session: its refusal's number or 0, the state that it leaves, and its line. Assumes nothing.
-use mathlib.Core.Path.{_≡_, refl, ap, sym, _∙_}
-use mathlib.Core.Bool.{Bool, true, false, cond}
+-- A call of a session: its refusal's number or 0, what it leaves, and its line. Definitions only.
 use mathlib.Core.List.{List}
-use Prim.Native.Nat.{ℕ, zero, suc, _≤_}
-use native.Mathlib.Omega.{arith}
-use borrow.Author.Tests.{leb-true}
-use lib.Dec.{leb}
+use Prim.Native.Nat.{ℕ, zero, suc}
 use lib.Ieee.{Float}
-use lib.ListN.{length, take}
+use lib.ListN.{take}
 use Rattle.fields.specs.Fields.{sectionOf}
-use Rattle.params.specs.Sizes.{replyLength}
-use Rattle.state.specs.State.{State, paramsIn}
-use Rattle.whole.specs.Whole.{wholeOf}
-use Rattle.calls.specs.Calls.{UpdateOutcome, updateLeft, updateDone, updateCall, RenderOutcome, renderCall}
-use Rattle.renderer.specs.declared.answers.UpdateAnswer.{UpdateAnswer}
-use Rattle.renderer.specs.declared.answers.UpdateAnswer.the-variants as of-update
-use Rattle.renderer.specs.declared.answers.RenderAnswer.{RenderAnswer}
-use Rattle.renderer.specs.declared.answers.RenderAnswer.the-variants as of-render
-use Rattle.renderer.specs.Answers.{updateNumber, updateSize, updateSeen, renderNumber, renderSeen}
+use Rattle.state.specs.State.{State}
+use Rattle.calls.specs.Calls.{UpdateOutcome, updateCall, RenderOutcome, renderCall}
 use Rattle.session.specs.declared.input.Call.{Call}
 use Rattle.session.specs.declared.input.Call.the-variants.{Render, Update, Nothing}
 use Rattle.session.specs.Text.{Text, text, append}
 use Rattle.session.specs.Lines.{framesLine, replyLine, refusedLine}
 
+-- what a session keeps from call to call: the renderer's state, and the slices that are lent for frames and for a reply
+pub record Held : Type 0 where
+  pub state : State
+  pub frames : List Float
+  pub reply : List ℕ
+
+abbrev pub held : State → List Float → List ℕ → Held
+held st frames reply = record { state = st; frames = frames; reply = reply }
+
 pub record Step : Type 0 where
   pub number : ℕ
-  pub state : State
-  pub out : Text
+  pub left : Held
+  pub line : List ℕ
 
-abbrev pub step : ℕ → State → Text → Step
-step n st t = record { number = n; state = st; out = t }
+abbrev pub step : ℕ → Held → List ℕ → Step
+step n h line = record { number = n; left = h; line = line }
 
 -- the line of a call that ran, or of its refusal
 abbrev pub lineOf : ℕ → List ℕ → List ℕ
 lineOf zero line = line
 lineOf (suc n) line = refusedLine (suc n)
 
--- sample memory stands at 0x10000
+-- sample memory stands at 0x10000; a render keeps the reply slice
 abbrev pub rendered : RenderOutcome → List ℕ → Step
-rendered o out = step (o .number) (o .state) (append (text out 0) (lineOf (o .number) (framesLine (o .frames))))
+rendered o reply = step (o .number) (held (o .state) (o .frames) reply) (lineOf (o .number) (framesLine (o .frames)))
 
-unfoldable pub renderStep : State → List ℕ → List Float → List ℕ → Step
+unfoldable pub renderStep : Held → List ℕ → Step
 unfolding renderCall
-renderStep st memory frames out = rendered (renderCall st 0x10000 memory frames) out
+renderStep h memory = rendered (renderCall (h .state) 0x10000 memory (h .frames)) (h .reply)
 
--- the reply is at the front of its slice
-abbrev pub updated : UpdateOutcome → List ℕ → Step
-updated o out = step (o .number) (o .state) (append (text out 0) (lineOf (o .number) (replyLine (take (o .size) (o .reply)))))
+-- the reply is at the front of its slice; an update keeps the frames
+abbrev pub updated : UpdateOutcome → List Float → Step
+updated o frames = step (o .number) (held (o .state) frames (o .reply)) (lineOf (o .number) (replyLine (take (o .size) (o .reply))))
 
-unfoldable pub updateStep : State → ℕ → List ℕ → List ℕ → List ℕ → Step
+unfoldable pub updateStep : Held → ℕ → List ℕ → Step
 unfolding updateCall
-updateStep st expected input reply out = updated (updateCall st expected input reply) out
+updateStep h expected input = updated (updateCall (h .state) expected input (h .reply)) (h .frames)
 
 -- the call at the front of d; question 10 has left none but these two
-unfoldable pub callStep : Call → List ℕ → List ℕ → State → List Float → List ℕ → List ℕ → Step
+unfoldable pub callStep : Call → List ℕ → List ℕ → Held → Step
 unfolding renderStep updateStep refusedLine
-callStep Render d memory st frames reply out = renderStep st memory frames out
-callStep (Update expected size) d memory st frames reply out = updateStep st expected (sectionOf d 9 size) reply out
-callStep Nothing d memory st frames reply out = step 10 st (append (text out 0) (refusedLine 10))
+callStep Render d memory h = renderStep h memory
+callStep (Update expected size) d memory h = updateStep h expected (sectionOf d 9 size)
+callStep Nothing d memory h = step 10 h (refusedLine 10)
 
--- ---- a step by what the renderer answered, a, and the line that was written
+-- ---- a step as it is run: its line stands at the front of `out`, the room for a line
 
-module _ (st : State) (m : List ℕ) (frames : List Float) (out : List ℕ) {a : RenderAnswer} {u : State} {f : List Float} {x : List ℕ} {y : ℕ}
-    (seen : renderSeen a u f ≡ renderCall st 0x10000 m frames) where
-  pub render-ran : {rounds : ℕ} → a ≡ of-render.Rendered rounds → text x y ≡ append (text out 0) (framesLine f)
-      → step 0 u (text x y) ≡ renderStep st m frames out
-  unfolding renderStep
-  render-ran e l = ap (step 0 u) l ∙ (λ i. rendered (renderSeen (sym e i) u f) out) ∙ ap (λ (o : RenderOutcome). rendered o out) seen
+pub record Written : Type 0 where
+  pub number : ℕ
+  pub left : Held
+  pub out : Text
 
-  pub render-refused : (n : ℕ) {b : RenderAnswer} {k : ℕ} → a ≡ b → renderNumber b ≡ suc n → k ≡ suc n → text x y ≡ append (text out 0) (refusedLine (suc n))
-      → step k u (text x y) ≡ renderStep st m frames out
-  unfolding renderStep
-  render-refused n e eb ek l =
-      let en : renderNumber a ≡ suc n = ap renderNumber e ∙ eb in
-      (λ i. step (ek i) u (l i))
-      ∙ (λ i. step (sym en i) u (append (text out 0) (lineOf (sym en i) (framesLine f))))
-      ∙ ap (λ (o : RenderOutcome). rendered o out) seen
+abbrev pub written : ℕ → Held → Text → Written
+written n h t = record { number = n; left = h; out = t }
 
--- a reply is within the slice that was lent for it
-by-answers : (st : State) (expected : ℕ) (input reply : List ℕ) (w f : Bool) {size : ℕ} {u : State} {y : List ℕ} → leb (replyLength (paramsIn st) expected) (length reply) ≡ f
-    → updateLeft 0 size u y ≡ cond w (cond f (updateDone st expected input reply) (updateLeft 6 0 st reply)) (updateLeft 4 0 st reply) → size ≤ length reply
-unfolding updateDone
-by-answers st expected input reply true true ef e =
-    omega (arith, ap (λ (x : UpdateOutcome). x .size) e, leb-true (replyLength (paramsIn st) expected) (length reply) ef)
-by-answers st expected input reply true false ef e = absurd (omega (arith, ap (λ (x : UpdateOutcome). x .number) e))
-by-answers st expected input reply false f ef e = absurd (omega (arith, ap (λ (x : UpdateOutcome). x .number) e))
-
-module _ (st : State) (expected : ℕ) (input reply out : List ℕ) {a : UpdateAnswer} {u : State} {y : List ℕ}
-    (seen : updateSeen a u y ≡ updateCall st expected input reply) where
-  module _ {x : List ℕ} {z : ℕ} where
-    pub update-ran : {size : ℕ} → a ≡ of-update.Updated size → text x z ≡ append (text out 0) (replyLine (take size y))
-        → step 0 u (text x z) ≡ updateStep st expected input reply out
-    unfolding updateStep
-    update-ran e l = ap (step 0 u) l ∙ (λ i. updated (updateSeen (sym e i) u y) out) ∙ ap (λ (o : UpdateOutcome). updated o out) seen
-
-    pub update-refused : (n : ℕ) {b : UpdateAnswer} {k : ℕ} → a ≡ b → updateNumber b ≡ suc n → k ≡ suc n → text x z ≡ append (text out 0) (refusedLine (suc n))
-        → step k u (text x z) ≡ updateStep st expected input reply out
-    unfolding updateStep
-    update-refused n e eb ek l =
-        let en : updateNumber a ≡ suc n = ap updateNumber e ∙ eb in
-        (λ i. step (ek i) u (l i))
-        ∙ (λ i. step (sym en i) u (append (text out 0) (lineOf (sym en i) (replyLine (take (updateSize a) y)))))
-        ∙ ap (λ (o : UpdateOutcome). updated o out) seen
-
-  pub reply-inside : {size : ℕ} → a ≡ of-update.Updated size → size ≤ length reply
-  unfolding updateCall
-  reply-inside e =
-      by-answers st expected input reply (wholeOf st) (leb (replyLength (paramsIn st) expected) (length reply)) refl ((λ i. updateSeen (sym e i) u y) ∙ seen)
-
--- ---- a step by the call, c
-
-module _ {c : Call} (d m : List ℕ) (st : State) (frames : List Float) (reply out : List ℕ) {s : Step} where
-  pub call-render : c ≡ Render → s ≡ renderStep st m frames out → s ≡ callStep c d m st frames reply out
-  unfolding callStep
-  call-render e l = rw e l
-
-  pub call-update : {expected size : ℕ} {input : List ℕ} → c ≡ Update expected size → input ≡ sectionOf d 9 size → s ≡ updateStep st expected input reply out
-      → s ≡ callStep c d m st frames reply out
-  unfolding callStep
-  call-update {expected = x} e q l = rw e (l ∙ ap (λ (i : List ℕ). updateStep st x i reply out) q)
-
-pub call-nothing : {c : Call} (d m : List ℕ) (st : State) (frames : List Float) (reply out : List ℕ) {k : ℕ} {t : Text} → c ≡ Nothing → k ≡ 10
-    → t ≡ append (text out 0) (refusedLine 10) → step k st t ≡ callStep c d m st frames reply out
-unfolding callStep
-call-nothing d m st frames reply out e ek l = rw e (λ i. step (ek i) st (l i))
+abbrev pub writtenOn : List ℕ → Step → Written
+writtenOn out s = written (s .number) (s .left) (append (text out 0) (s .line))

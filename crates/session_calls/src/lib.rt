@@ -1,11 +1,12 @@
 // A call of a session: run on a renderer, and its line written at the front of a lent slice.
 ghost use mathlib.Core.Path.{_≡_};
+ghost use mathlib.Core.List.{[]};
 ghost use Prim.Native.Nat.{_≤_};
 ghost use lib.ListN.{length};
 ghost use Rattle.state.specs.State.{stateOf};
 ghost use Rattle.session.specs.Text.{text, append};
 ghost use Rattle.session.specs.Lines.{refusedLine};
-ghost use Rattle.session_calls.specs.Steps.{step, renderStep, updateStep, callStep};
+ghost use Rattle.session_calls.specs.Steps.{held, written, writtenOn, renderStep, updateStep, callStep};
 use renderer::RenderAnswer;
 use renderer::UpdateAnswer;
 use session::Call;
@@ -19,6 +20,7 @@ pub struct Line {
     pub size: usize,
 }
 
+// Writes a refusal's line.
 fn refused(number: u32, out: &mut [u8]) -> Line
     requires { ⌜ 65536 ≤ length (now out) ⌝ }
     ensures { λ r. ⌜ (r .number ≡ number) × (text (now (out .exit)) (r .size) ≡ append (text (now (out .entry)) 0) (refusedLine number)) ⌝ }
@@ -28,6 +30,7 @@ fn refused(number: u32, out: &mut [u8]) -> Line
     Line { number, size }
 }
 
+// Renders, and writes the frames' line or the refusal's.
 fn run_render(
     memory: &[u8],
     words: &mut [u32],
@@ -40,8 +43,14 @@ fn run_render(
 ) -> Line
     requires { ⌜ length (now frames) ≤ 128 ⌝ }
     requires { ⌜ 65536 ≤ length (now out) ⌝ }
-    ensures { λ r. ⌜ step (r .number) (stateOf (now (words .exit)) (now (longs .exit)) (now (floats .exit)) (now (contexts .exit)) (now (history .exit))) (text (now (out .exit)) (r .size))
-        ≡ renderStep (stateOf (now (words .entry)) (now (longs .entry)) (now (floats .entry)) (now (contexts .entry)) (now (history .entry))) (now (memory .entry)) (now (frames .entry)) (now (out .entry)) ⌝ }
+    ensures { λ r. ⌜ written (r .number)
+        (held (stateOf (now (words .exit)) (now (longs .exit)) (now (floats .exit)) (now (contexts .exit)) (now (history .exit)))
+        (now (frames .exit)) [])
+        (text (now (out .exit)) (r .size))
+        ≡ writtenOn (now (out .entry)) (renderStep
+        (held (stateOf (now (words .entry)) (now (longs .entry)) (now (floats .entry)) (now (contexts .entry)) (now (history .entry)))
+        (now (frames .entry)) [])
+        (now (memory .entry))) ⌝ }
     ensures { λ r. ⌜ r .size ≤ length (now (out .exit)) ⌝ }
 {
     let answer = renderer::render(
@@ -65,6 +74,7 @@ fn run_render(
     }
 }
 
+// Updates, and writes the reply's line or the refusal's.
 fn run_update(
     expected: u32,
     input: &[u8],
@@ -78,8 +88,14 @@ fn run_update(
 ) -> Line
     requires { ⌜ length (now reply) ≤ 16384 ⌝ }
     requires { ⌜ 65536 ≤ length (now out) ⌝ }
-    ensures { λ r. ⌜ step (r .number) (stateOf (now (words .exit)) (now (longs .exit)) (now (floats .exit)) (now (contexts .exit)) (now (history .exit))) (text (now (out .exit)) (r .size))
-        ≡ updateStep (stateOf (now (words .entry)) (now (longs .entry)) (now (floats .entry)) (now (contexts .entry)) (now (history .entry))) expected (now (input .entry)) (now (reply .entry)) (now (out .entry)) ⌝ }
+    ensures { λ r. ⌜ written (r .number)
+        (held (stateOf (now (words .exit)) (now (longs .exit)) (now (floats .exit)) (now (contexts .exit)) (now (history .exit)))
+        [] (now (reply .exit)))
+        (text (now (out .exit)) (r .size))
+        ≡ writtenOn (now (out .entry)) (updateStep
+        (held (stateOf (now (words .entry)) (now (longs .entry)) (now (floats .entry)) (now (contexts .entry)) (now (history .entry)))
+        [] (now (reply .entry)))
+        expected (now (input .entry))) ⌝ }
     ensures { λ r. ⌜ r .size ≤ length (now (out .exit)) ⌝ }
 {
     let answer = renderer::update(
@@ -119,8 +135,13 @@ pub fn run_call(
     requires { ⌜ length (now frames) ≤ 128 ⌝ }
     requires { ⌜ length (now reply) ≤ 16384 ⌝ }
     requires { ⌜ 65536 ≤ length (now out) ⌝ }
-    ensures { λ r. ⌜ step (r .number) (stateOf (now (words .exit)) (now (longs .exit)) (now (floats .exit)) (now (contexts .exit)) (now (history .exit))) (text (now (out .exit)) (r .size))
-        ≡ callStep call (now (d .entry)) (now (memory .entry)) (stateOf (now (words .entry)) (now (longs .entry)) (now (floats .entry)) (now (contexts .entry)) (now (history .entry))) (now (frames .entry)) (now (reply .entry)) (now (out .entry)) ⌝ }
+    ensures { λ r. ⌜ written (r .number)
+        (held (stateOf (now (words .exit)) (now (longs .exit)) (now (floats .exit)) (now (contexts .exit)) (now (history .exit)))
+        (now (frames .exit)) (now (reply .exit)))
+        (text (now (out .exit)) (r .size))
+        ≡ writtenOn (now (out .entry)) (callStep call (now (d .entry)) (now (memory .entry))
+        (held (stateOf (now (words .entry)) (now (longs .entry)) (now (floats .entry)) (now (contexts .entry)) (now (history .entry)))
+        (now (frames .entry)) (now (reply .entry)))) ⌝ }
     ensures { λ r. ⌜ r .size ≤ length (now (out .exit)) ⌝ }
 {
     match call {

@@ -1,16 +1,16 @@
--- What the sessions that are computed consist of: one voice, one mix, one sink that plays it, two samples a render. Definitions only.
+-- What the sessions that are computed consist of: a few voices, one mix, one sink that plays it, two samples a render. Definitions only.
 use mathlib.Core.Bool.{false}
 use mathlib.Core.List.{List, [], _∷_, _++_}
 use Prim.Native.Nat.{ℕ, _+_, _-_, _*_, _^_}
 use lib.Ieee.{Float, fin}
 use lib.IntN.{negsuc}
-use lib.ListN.{replicate}
+use lib.ListN.{length, take, replicate}
 use Rattle.floats.specs.Defs.{zero32}
 use Rattle.fields.specs.Fields.{bytesOf}
 use Rattle.params.specs.declared.params.Params.{Params}
-use Rattle.state.specs.State.{State, stateOf}
+use Rattle.state.specs.State.{State, stateOf, placesOf}
 use Rattle.secrecy.specs.Sessions.{Call, update, render}
 use Rattle.secrecy.specs.Demand.{begun}
 
 -- ---- bytes by their fields
 
@@ -47,11 +47,16 @@ noMix = 0x7fffffff
 abbrev pub noSplitter : ℕ
 noSplitter = 0xffffffff
 
--- marks in use and new, format, data source, mix, splitter and wave records; one channel at 48 kHz, pitch and volume 1, one buffer queued
+-- by: marks in use and new, play request, format, channels, buffers queued, data source, mix, splitter, wave records. It has 48 kHz,
+-- pitch and volume 1
+abbrev pub anyVoice : ℕ → ℕ → ℕ → ℕ → ℕ → ℕ → ℕ → ℕ → ℕ → List Field → List Field
+anyVoice used new play format channels queued source mix splitter waves =
+    byte 0x08 new ∷ byte 0x09 used ∷ byte 0x0a play ∷ byte 0x0b format ∷ word 0x0c 48000 ∷ word 0x18 channels ∷ word 0x1c oneBits
+    ∷ word 0x20 oneBits ∷ word 0x3c queued ∷ long 0x48 source ∷ word 0x58 mix ∷ word 0x5c splitter ∷ waves
+
+-- started, of one channel, with one buffer queued
 abbrev pub voice : ℕ → ℕ → ℕ → ℕ → ℕ → ℕ → List Field → List Field
-voice used new format source mix splitter waves =
-    byte 0x08 new ∷ byte 0x09 used ∷ byte 0x0b format ∷ word 0x0c 48000 ∷ word 0x18 1 ∷ word 0x1c oneBits ∷ word 0x20 oneBits ∷ word 0x3c 1
-    ∷ long 0x48 source ∷ word 0x58 mix ∷ word 0x5c splitter ∷ waves
+voice used new format source mix splitter waves = anyVoice used new 0 format 1 1 source mix splitter waves
 
 -- in use and new, of 16-bit PCM; the same not in use; and the same not new
 abbrev pub newVoice : ℕ → ℕ → ℕ → List Field → List Field
@@ -79,10 +84,21 @@ sentBefore = byte 0x7a 1 ∷ byte 0xb2 1 ∷ byte 0xea 1 ∷ byte 0x122 1 ∷ []
 
 -- ---- inputs of updates
 
--- a voice's record alone
-unfoldable pub voiceInput : List Field → List ℕ
+-- the records of voices 0, 1, .., one after the other
+unfoldable pub records : List (List Field) → List ℕ
 unfolding laidFrom
-voiceInput fields = laidFrom 0 0x40 (word 0x0c 0x170 ∷ []) ++ laidFrom 0 0x170 fields
+records [] = []
+records (fields ∷ more) = laidFrom 0 0x170 fields ++ records more
+
+-- an input whose section of voices is the first `size` bytes of them, and that has nothing else
+unfoldable pub cutInput : ℕ → List (List Field) → List ℕ
+unfolding records
+cutInput size voices = laidFrom 0 0x40 (word 0x0c size ∷ []) ++ take size (records voices)
+
+-- with all of them
+unfoldable pub voicesInput : List (List Field) → List ℕ
+unfolding cutInput
+voicesInput voices = cutInput (0x170 * length voices) voices
 
 -- the desk: a channel resource whose gain is 1; a mix in use, volume 1, one buffer; a device in use, with that buffer as its one input
 unfoldable pub deskInput : List ℕ
@@ -99,13 +115,14 @@ deskInput =
 abbrev pub revision : ℕ → ℕ
 revision n = 0x30564552 + n * 2 ^ 24
 
-abbrev pub params : ℕ → Params
-params word = record {
+-- parameters for so many voices
+abbrev pub paramsFor : ℕ → ℕ → Params
+paramsFor voices word = record {
   «sample_rate» = 48000;
   «sample_count» = 2;
   «mix_buffers» = 1;
   «sub_mixes» = 0;
-  voices = 1;
+  voices = voices;
   sinks = 1;
   effects = 0;
   splitters = 0;
@@ -113,28 +130,46 @@ params word = record {
   revision = word;
 }
 
--- the slices that it is opened on, whatever they held
-unfoldable pub slices : State
-slices = stateOf (replicate 83 7) (replicate 15 7) (replicate 633 zero32) (replicate 3 7) (replicate 18 zero32)
+-- the slices that a session is opened on, whatever they held
+unfoldable pub slicesFor : ℕ → State
+unfolding placesOf
+slicesFor n =
+    let at = placesOf (paramsFor n 0) in
+    stateOf (replicate (at .words) 7) (replicate (at .longs) 7) (replicate (at .floats) zero32) (replicate (at .contexts) 7)
+    (replicate (at .history) zero32)
 
 -- the state that its open makes, of a revision's word
-unfoldable pub start : ℕ → State
-unfolding slices
-start word = begun (params word) slices
+unfoldable pub startFor : ℕ → ℕ → State
+unfolding slicesFor
+startFor n word = begun (paramsFor n word) (slicesFor n)
 
--- the updates; a reply is 0x170 bytes, and 0x180 from revision 5
+-- with one voice
+abbrev pub params : ℕ → Params
+params word = paramsFor 1 word
+
+abbrev pub slices : State
+slices = slicesFor 1
+
+abbrev pub start : ℕ → State
+start word = startFor 1 word
+
+-- the updates; a reply is 0x120 bytes and 0x50 for each voice, and from revision 5 0x10 more
 unfoldable pub desk : Call
 unfolding deskInput
-desk = update 0 deskInput (replicate 0x180 0)
+desk = update 0 deskInput (replicate 0x300 0)
 
-unfoldable pub updating : List Field → Call
-unfolding voiceInput
-updating fields = update 0 (voiceInput fields) (replicate 0x180 0)
+-- with the records of voices 0, 1, ..
+unfoldable pub updatingAll : List (List Field) → Call
+unfolding voicesInput
+updatingAll voices = update 0 (voicesInput voices) (replicate 0x300 0)
+
+abbrev pub updating : List Field → Call
+updating fields = updatingAll (fields ∷ [])
 
 -- one that is refused by 6: the reply slice is a byte too short
 unfoldable pub refused : List Field → Call
-unfolding voiceInput
-refused fields = update 0 (voiceInput fields) (replicate 0x16f 0)
+unfolding voicesInput
+refused fields = update 0 (voicesInput (fields ∷ [])) (replicate 0x16f 0)
 
 -- sample memory begins at 0x10000
 abbrev pub base : ℕ
@@ -142,6 +177,10 @@ base = 0x10000
 
 unfoldable pub rendering : List ℕ → Call
 rendering m = render base m (replicate 4 zero32)
+
+-- one that is refused by 7: the frame slice is a float too short
+unfoldable pub refusedRender : List ℕ → Call
+refusedRender m = render base m (replicate 3 zero32)
 
 -- ---- voices that play, and what sample memory has for them
 

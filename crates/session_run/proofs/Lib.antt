@@ -1,0 +1,5 @@
+pub mod Printed
+pub mod Running
+pub mod Turning
+pub mod Opening
+pub mod Fitting
