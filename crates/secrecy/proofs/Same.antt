@@ -7,6 +7,7 @@ use native.Mathlib.Omega.{arith}
 use borrow.Author.Tests.{ltb-true, ltb-false, eqb-true}
 use lib.Dec.{ltb, eqb}
 use lib.ListN.{length, getD}
+use Rattle.row_tests.specs.Tests.{both-left, both-right}
 use Rattle.alike.specs.Reads.{Span}
 use Rattle.secrecy.specs.Declared.{Within}
 use Rattle.secrecy.specs.Demand.{Agree}
@@ -25,10 +26,6 @@ unfoldable pub sameOn : ℕ → List ℕ → List ℕ → List Span → Bool
 unfolding sameFrom
 sameOn base m m′ [] = true
 sameOn base m m′ (s ∷ spans) = sameFrom base m m′ (s .at) (s .long) && sameOn base m m′ spans
-
-both : (a b : Bool) → a && b ≡ true → (a ≡ true) × (b ≡ true)
-both true b e = (refl, e)
-both false b e = absurd (true≢false (sym e))
 
 module _ (base : ℕ) (m m′ : List ℕ) where
   at-address : (x : ℕ) → base ≤ x → (before same : Bool) → ltb x base ≡ before → eqb (getD m (x - base) 0) (getD m′ (x - base) 0) ≡ same
@@ -54,16 +51,15 @@ module _ (base : ℕ) (m m′ : List ℕ) where
   unfolding sameFrom
   in-span at zero j x l e lo t = absurd (omega arith)
   in-span at (suc n) j x l e lo t =
-      let t′ = both (sameAt base m m′ ((at + n) % 2 ^ 64)) (sameFrom base m m′ at n) t in
-      at-place at n j x (ltb j n) refl l e lo (t′ .0) (λ q. in-span at n j x q e lo (t′ .1))
+      let last : Bool = sameAt base m m′ ((at + n) % 2 ^ 64) in
+      let before : Bool = sameFrom base m m′ at n in
+      at-place at n j x (ltb j n) refl l e lo (both-left last before t) (λ q. in-span at n j x q e lo (both-right last before t))
 
   -- a test that says yes is agreement
   pub agrees : (spans : List Span) → sameOn base m m′ spans ≡ true → Agree base m m′ spans
   unfolding sameOn
   agrees (s ∷ spans) t x lo hi (u, List·Memᴰ·head e, w) =
-      let t′ = both (sameFrom base m m′ (s .at) (s .long)) (sameOn base m m′ spans) t in
       let w′ = subst (λ (v : Span). Within v x) e w in
-      in-span (s .at) (s .long) (w′ .0) x (w′ .1) (w′ .2) lo (t′ .0)
+      in-span (s .at) (s .long) (w′ .0) x (w′ .1) (w′ .2) lo (both-left (sameFrom base m m′ (s .at) (s .long)) (sameOn base m m′ spans) t)
   agrees (s ∷ spans) t x lo hi (u, List·Memᴰ·tail i, w) =
-      let t′ = both (sameFrom base m m′ (s .at) (s .long)) (sameOn base m m′ spans) t in
-      agrees spans (t′ .1) x lo hi (u, i, w)
+      agrees spans (both-right (sameFrom base m m′ (s .at) (s .long)) (sameOn base m m′ spans) t) x lo hi (u, i, w)
