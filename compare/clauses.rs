@@ -1,4 +1,4 @@
-//! Question 4 as a list of clauses, written from document 01 ("Whole means: ..") and the table of rows in docs/ARCHITECTURE.md: what each
+//! Question 4 as a list of clauses, written from docs/QUESTIONS.md ("A whole state") and the table of rows in docs/ARCHITECTURE.md: what each
 //! clause is called, where its field stands and which values it allows. A field that no clause names may hold anything.
 
 /// A renderer's five slices; a float is held as its bits.
@@ -191,7 +191,7 @@ pub fn broken(list: &[Clause], s: &State) -> u64 {
     found
 }
 
-/// The list: document 01's sentence, clause by clause.
+/// The list: docs/QUESTIONS.md's, clause by clause.
 pub fn list() -> Vec<Clause> {
     let mut list = vec![];
     let mut add = |name: String, field, rule| list.push(Clause { name, field, rule, shift: [0, 0] });

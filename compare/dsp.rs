@@ -58,7 +58,7 @@ impl Adpcm {
         Adpcm { data: r.bytes(len), start, count, coefficients, context, room }
     }
 
-    /// The questions of the call for ADPCM alone are document 01's; what follows them is the Rust.
+    /// The questions of the call for ADPCM alone are those of docs/QUESTIONS.md; what follows them is the Rust.
     fn oracle(&self) -> Decoded {
         let refused = |n| Decoded(n, 0, 0, 0, 0, vec![bits(FILL); self.room]);
         if self.start > FAR {

@@ -17,7 +17,7 @@ const RULES: [(&str, &str, Rule); 12] = [
     ("splitter list", "at most 128 for any destination count", Rule::Between(0, 128)),
 ];
 
-/// Clauses that document 01 hasn't: fields that may hold anything.
+/// Clauses that docs/QUESTIONS.md hasn't: fields that may hold anything.
 const MORE: [(&str, Field, i64); 14] = [
     ("sample rate at most 48000", Field::Parameter(0), 48000),
     ("revision word below 2^31", Field::Parameter(9), 0x7fff_ffff),

@@ -1,5 +1,5 @@
 #!/usr/bin/env python3
-"""edits.py FROM TO: copies kirikae's audio sources from FROM to TO with the edits that document 01 names. An edit whose text
+"""edits.py FROM TO: copies kirikae's audio sources from FROM to TO with the edits below; docs/DIFFERENCES.md has their reasons. An edit whose text
 does not stand in its file exactly once stops the build, so that the oracle is never something else unnoticed."""
 import os
 import sys

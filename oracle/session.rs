@@ -1,4 +1,4 @@
-//! A session as document 01 has it. Its questions are answered here, since the Rust has none; everything else is the Rust's.
+//! A session as docs/QUESTIONS.md has it. Its questions are answered here, since the Rust has none; everything else is the Rust's.
 use crate::mixer::probe::Slices;
 use crate::renderer::Probe;
 use crate::{Memory, take_rounds};

@@ -1,10 +1,12 @@
 // What the calls on a renderer answer, in numbers. Where `number` is not 0 the rest is 0.
 ghost use mathlib.Core.Path.{_≡_};
-ghost use Rattle.renderer.specs.Answers.{lengthsSeen, openNumber};
-ghost use Rattle.cabi.specs.Answers.{lengthsLeft, updateTold, renderTold};
+ghost use Rattle.renderer.specs.Answers.{lengthsSeen, replyLengthSeen, openNumber, orderSeen};
+ghost use Rattle.cabi.specs.Answers.{lengthsLeft, lengthIn, updateTold, renderTold, orderIn};
 use renderer::LengthsAnswer;
 use renderer::OpenAnswer;
+use renderer::OrderAnswer;
 use renderer::RenderAnswer;
+use renderer::ReplyLengthAnswer;
 use renderer::UpdateAnswer;
 
 #[repr(C)]
@@ -15,6 +17,12 @@ pub struct JeqllunaLengths {
     pub floats: usize,
     pub contexts: usize,
     pub history: usize,
+}
+
+#[repr(C)]
+pub struct JeqllunaLength {
+    pub number: u32,
+    pub size: usize,
 }
 
 #[repr(C)]
@@ -29,6 +37,15 @@ pub struct JeqllunaRender {
     pub number: u32,
     // The rounds that the fetches took, of all voices.
     pub rounds: u32,
+}
+
+#[repr(C)]
+pub struct JeqllunaOrder {
+    pub number: u32,
+    // How many sub-mixes run.
+    pub count: u32,
+    // Their numbers in their sequence, and zeros behind them.
+    pub mixes: [u32; 31],
 }
 
 pub fn lengths_told(a: LengthsAnswer) -> JeqllunaLengths
@@ -59,6 +76,16 @@ pub fn lengths_told(a: LengthsAnswer) -> JeqllunaLengths
             contexts: 0,
             history: 0,
         },
+    }
+}
+
+pub fn reply_length_told(a: ReplyLengthAnswer) -> JeqllunaLength
+    ensures { λ r. ⌜ lengthIn r ≡ replyLengthSeen a ⌝ }
+{
+    match a {
+        ReplyLengthAnswer::Length(size) => JeqllunaLength { number: 0, size },
+        ReplyLengthAnswer::Samples => JeqllunaLength { number: 1, size: 0 },
+        ReplyLengthAnswer::Counts => JeqllunaLength { number: 2, size: 0 },
     }
 }
 
@@ -100,5 +127,17 @@ pub fn render_told(a: RenderAnswer) -> JeqllunaRender
             number: 7,
             rounds: 0,
         },
+    }
+}
+
+pub fn order_told(a: OrderAnswer) -> JeqllunaOrder
+    ensures { λ r. ⌜ orderIn r ≡ orderSeen a ⌝ }
+{
+    let order = a.order;
+    let mixes = order.mixes;
+    JeqllunaOrder {
+        number: a.number,
+        count: order.count,
+        mixes,
     }
 }

@@ -1,9 +1,11 @@
-// The calls for C, Rust and other languages: numbers, lent slices and structs of numbers. Each answer has document 01's number, 0 for success.
+// The calls for C, Rust and other languages: numbers, lent slices and structs of numbers. Each answer has a number of docs/QUESTIONS.md, 0 for success.
 // include/jeqlluna.h declares them.
 mod answers;
 mod decode;
 
+pub use answers::JeqllunaLength;
 pub use answers::JeqllunaLengths;
+pub use answers::JeqllunaOrder;
 pub use answers::JeqllunaRender;
 pub use answers::JeqllunaUpdate;
 pub use decode::JeqllunaContext;
@@ -12,8 +14,8 @@ pub use decode::jeqlluna_decode_adpcm;
 ghost use mathlib.Core.Path.{_≡_};
 ghost use Rattle.params.specs.Params.{parseOf};
 ghost use Rattle.state.specs.State.{stateOf};
-ghost use Rattle.calls.specs.Calls.{lengthsCall, openLeft, openCall, updateLeft, updateCall, renderLeft, renderCall};
-ghost use Rattle.cabi.specs.Answers.{lengthsLeft};
+ghost use Rattle.calls.specs.Calls.{lengthsCall, replyLengthCall, openLeft, openCall, updateLeft, updateCall, renderLeft, renderCall, orderCall};
+ghost use Rattle.cabi.specs.Answers.{lengthsLeft, lengthIn, orderIn};
 use params::Params;
 
 // How long the five slices of a renderer with these parameters must be.
@@ -22,6 +24,14 @@ pub extern "C" fn jeqlluna_lengths(parameters: &[u8]) -> JeqllunaLengths
     ensures { λ r. ⌜ lengthsLeft r ≡ lengthsCall (parseOf (now (parameters .entry))) ⌝ }
 {
     answers::lengths_told(renderer::lengths(Params::parse(parameters)))
+}
+
+// How long the reply to an update is, where the title expects so many bytes.
+#[no_mangle]
+pub extern "C" fn jeqlluna_reply_length(parameters: &[u8], expected: u32) -> JeqllunaLength
+    ensures { λ r. ⌜ lengthIn r ≡ replyLengthCall (parseOf (now (parameters .entry))) expected ⌝ }
+{
+    answers::reply_length_told(renderer::reply_length(Params::parse(parameters), expected))
 }
 
 // Makes the state of a renderer, whatever the slices held before.
@@ -99,4 +109,18 @@ pub extern "C" fn jeqlluna_render(
         memory,
         frames,
     ))
+}
+
+// The sub-mixes that a render of this state runs, in their sequence.
+#[no_mangle]
+pub extern "C" fn jeqlluna_mix_order(
+    words: &[u32],
+    longs: &[u64],
+    floats: &[f32],
+    contexts: &[u16],
+    history: &[f32],
+) -> JeqllunaOrder
+    ensures { λ r. ⌜ orderIn r ≡ orderCall (stateOf (now (words .entry)) (now (longs .entry)) (now (floats .entry)) (now (contexts .entry)) (now (history .entry))) ⌝ }
+{
+    answers::order_told(renderer::mix_order(words, longs, floats, contexts, history))
 }

@@ -1,7 +1,7 @@
--- What each call answers and leaves: document 01's questions in their sequence, each "no" with its number, and what is done where all are answered "yes".
+-- What each call answers and leaves: its questions (docs/QUESTIONS.md) in their sequence, each "no" with its number, and what is done where all are answered "yes".
 -- A refusal's other results are 0, and the state and the lent slice stay. Definitions only.
 use mathlib.Core.Bool.{Bool, cond}
-use mathlib.Core.List.{List}
+use mathlib.Core.List.{List, []}
 use Prim.Native.Nat.{ℕ, _+_, _*_, _^_}
 use lib.Dec.{leb}
 use lib.Ieee.{Float}
@@ -15,6 +15,9 @@ use Rattle.whole.specs.Counts.{samplesAllowed, countsAllowed}
 use Rattle.whole.specs.Whole.{sizedOf, wholeOf}
 use Rattle.opened.specs.Opened.{opened}
 use Rattle.updates.specs.Update.{updated, updateReply}
+use Rattle.desk_order.specs.declared.listed.MixOrder.{MixOrder}
+use Rattle.desk_order.specs.Listed.{listedOf}
+use Rattle.desk_render.specs.DeskRender.{orderBy}
 use Rattle.render.specs.Render.{Rendered, renderedBy}
 
 -- ---- lengths: how long the five slices of a state must be
@@ -36,6 +39,20 @@ lengthsGiven at = record { number = 0; words = at .words; longs = at .longs; flo
 unfoldable pub lengthsCall : Params → LengthsOutcome
 unfolding samplesAllowed countsAllowed placesOf
 lengthsCall p = cond (samplesAllowed p) (cond (countsAllowed p) (lengthsGiven (placesOf p)) (lengthsRefused 2)) (lengthsRefused 1)
+
+-- ---- reply_length: how long the reply is to a title that expects so many bytes
+
+pub record LengthOutcome : Type 0 where
+  pub number : ℕ
+  pub size : ℕ
+
+abbrev pub lengthLeft : ℕ → ℕ → LengthOutcome
+lengthLeft n size = record { number = n; size = size }
+
+unfoldable pub replyLengthCall : Params → ℕ → LengthOutcome
+unfolding samplesAllowed countsAllowed replyLength
+replyLengthCall p expected =
+    cond (samplesAllowed p) (cond (countsAllowed p) (lengthLeft 0 (replyLength p expected)) (lengthLeft 2 0)) (lengthLeft 1 0)
 
 -- ---- open
 
@@ -102,3 +119,19 @@ renderCall st base m frames =
     (cond (leb (2 * paramsIn st .«sample_count») (length frames)) (renderDone st base m frames) (renderLeft 7 0 st frames))
     (renderLeft 5 0 st frames))
     (renderLeft 4 0 st frames)
+
+-- ---- mix_order: the sub-mixes that a render runs, in their sequence; the state stays
+
+pub record OrderOutcome : Type 0 where
+  pub number : ℕ
+  pub order : MixOrder
+
+abbrev pub orderGiven : MixOrder → OrderOutcome
+orderGiven xs = record { number = 0; order = xs }
+
+abbrev pub orderRefused : ℕ → OrderOutcome
+orderRefused n = record { number = n; order = listedOf [] }
+
+unfoldable pub orderCall : State → OrderOutcome
+unfolding wholeOf orderBy
+orderCall st = cond (wholeOf st) (orderGiven (listedOf (orderBy (paramsIn st) (st .words)))) (orderRefused 4)

@@ -1,3 +1,4 @@
 pub mod DeskOrder
 pub mod Laws
+pub mod Listed
 pub mod Examples

@@ -8,6 +8,7 @@ use Rattle.params.specs.declared.params.Params.{Params}
 use Rattle.params.specs.Sizes.{Allowed}
 use Rattle.state.specs.State.{mixesOf, wordsOf, floatsOf, mixWordsIn, mixFloatsIn, sinkWordsIn, sinkFloatsIn, listWordsIn, destinationFloatsIn}
 use Rattle.desk_rows.specs.DeskRows.{Mixes, Lists}
+use Rattle.desk_order.specs.DeskOrder.{mixOrder}
 use Rattle.mixing.specs.Mixing.{mixedDown}
 use Rattle.frames.specs.Frames.{framesOf}
 
@@ -16,6 +17,10 @@ unfoldable pub mixedBy : Params → List ℕ → List Float → List Float → L
 mixedBy p words floats buffers =
     mixedDown (p .«sample_count») (mixesOf p) (mixWordsIn p words) (mixFloatsIn p floats) (p .splitters) (p .«splitter_destinations») (listWordsIn p words)
     (destinationFloatsIn p floats) buffers
+
+-- the sub-mixes that `render_mixes` runs, in their sequence
+unfoldable pub orderBy : Params → List ℕ → List ℕ
+orderBy p words = mixOrder (mixesOf p) (p .splitters) (p .«splitter_destinations») (mixWordsIn p words) (listWordsIn p words)
 
 -- the frames of `write_sink`: mix 0's buffers come first, so that its offset is 0
 unfoldable pub framesBy : Params → List ℕ → List Float → List Float → List Float

@@ -3,8 +3,13 @@ ghost use mathlib.Core.Path.{_≡_};
 ghost use mathlib.Core.List.{_++_};
 ghost use Prim.Native.Nat.{_*_, _≤_};
 ghost use lib.ListN.{length, drop};
+ghost use Rattle.params.specs.Sizes.{Allowed};
+ghost use Rattle.state.specs.State.{mixesOf, wordsOf, mixWordsIn, listWordsIn};
+ghost use Rattle.desk_rows.specs.DeskRows.{Mixes, Lists};
+ghost use Rattle.desk_order.specs.Listed.{listedOf};
 ghost use Rattle.sink.specs.Sink.{Silent};
-ghost use Rattle.desk_render.specs.DeskRender.{Mixable, mixedBy, framesBy};
+ghost use Rattle.desk_render.specs.DeskRender.{Mixable, mixedBy, orderBy, framesBy};
+use desk_order::MixOrder;
 use params::Params;
 
 // The sub-mixes and the final mix's volume. `row` is room for one row of samples.
@@ -33,6 +38,25 @@ pub fn render_mixes(p: Params, words: &[u32], floats: &[f32], buffers: &mut [f32
         p.splitter_destinations as usize,
         &floats[destinations..floats_end],
     );
+}
+
+// The sub-mixes that `render_mixes` runs, in their sequence.
+pub fn mix_order(p: Params, words: &[u32]) -> MixOrder
+    requires { ⌜ Allowed p ⌝ ∗ ⌜ length (now words) ≡ wordsOf p ⌝ ∗ ⌜ Mixes (mixesOf p) (mixWordsIn p (now words)) ⌝ ∗ ⌜ Lists (p .splitters) (p .«splitter_destinations») (listWordsIn p (now words)) ⌝ }
+    ensures { λ r. ⌜ r ≡ listedOf (orderBy p (now (words .entry))) ⌝ }
+{
+    let at = state::places_of(p);
+    let mixes = at.mix_words;
+    let sinks = at.sink_words;
+    let lists = at.list_words;
+    let words_end = at.words;
+    desk_order::list_order(
+        &words[mixes..sinks],
+        at.mixes,
+        &words[lists..words_end],
+        p.splitters as usize,
+        p.splitter_destinations as usize,
+    )
 }
 
 // The frames of the first used device sink, left and right by turns; what lies beyond them in `frames` stays.

@@ -1,4 +1,4 @@
-// Document 01's example: an endless loop of one sample, of which 240 are needed, gives 64 samples and 176 zeros in 64 rounds.
+// A worked example of docs/QUESTIONS.md: an endless loop of one sample, of which 240 are needed, gives 64 samples and 176 zeros in 64 rounds.
 ghost use Prim.Native.Nat.{_≤_};
 ghost use lib.ListN.{length};
 use adpcm::AdpcmContext;

@@ -4,7 +4,7 @@ use Prim.Native.Nat.{ℕ, _+_, _-_, _*_, _/_, _%_, _^_, _≤_}
 use lib.Dec.{leb, ltb}
 use Rattle.params.specs.declared.params.Params.{Params}
 
--- document 01's "Counts allowed"
+-- the counts that are allowed (docs/QUESTIONS.md)
 pub record Allowed (p : Params) : Type 0 where
   pub some-samples : 1 ≤ p .«sample_count»
   pub samples : p .«sample_count» ≤ 256

@@ -1,4 +1,4 @@
--- Document 01's example: an endless loop of one sample, of which 240 are needed, ends after 64 rounds with 64 samples. Assumes nothing.
+-- A worked example of docs/QUESTIONS.md: an endless loop of one sample, of which 240 are needed, ends after 64 rounds with 64 samples. Assumes nothing.
 use mathlib.Core.Bool.{true, false}
 use mathlib.Core.List.{[], _∷_}
 use mathlib.Core.Path.{_≡_, refl}

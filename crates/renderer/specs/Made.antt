@@ -7,7 +7,7 @@ use native.Mathlib.Omega.{arith}
 use borrow.Author.Tests.{le-leb, lt-leb, not-true, not-false}
 use lib.Dec.{leb}
 use lib.Ieee.{Float}
-use lib.ListN.{length}
+use lib.ListN.{length, replicate}
 use Rattle.rows.specs.Rows.{put}
 use Rattle.params.specs.declared.params.Params.{Params}
 use Rattle.params.specs.Sizes.{Allowed, replyLength}
@@ -18,7 +18,10 @@ use Rattle.whole.specs.Whole.{sizedOf, wholeOf, sized-facts}
 use Rattle.opened.specs.Opened.{opened}
 use Rattle.updates.specs.Update.{updated, updateReply}
 use Rattle.render.specs.Render.{Rendered, rendered, renderedBy}
-use Rattle.calls.specs.Calls.{lengthsRefused, lengthsGiven, lengthsCall, openLeft, openCall, updateLeft, updateDone, updateCall, renderLeft, renderDone, renderCall}
+use Rattle.desk_order.specs.declared.listed.MixOrder.{MixOrder}
+use Rattle.desk_order.specs.Listed.{listedOf}
+use Rattle.desk_render.specs.DeskRender.{orderBy}
+use Rattle.calls.specs.Calls.{OrderOutcome, lengthsRefused, lengthsGiven, lengthsCall, lengthLeft, replyLengthCall, openLeft, openCall, updateLeft, updateDone, updateCall, renderLeft, renderDone, renderCall, orderGiven, orderRefused, orderCall}
 
 -- a test t that its function answered by r
 pub passed : {t r : Bool} → r ≡ t → not r ≡ false → t ≡ true
@@ -27,12 +30,16 @@ passed {r = r} e q = sym e ∙ not-false r q
 failed : {t r : Bool} → r ≡ t → not r ≡ true → t ≡ false
 failed {r = r} e q = sym e ∙ not-true r q
 
--- ---- lengths and open: the answers s, c and z of questions 1, 2 and 3
+-- ---- lengths, reply_length and open: the answers s, c and z of questions 1, 2 and 3
 
 module _ (p : Params) {s : Bool} (es : s ≡ samplesAllowed p) where
   pub lengths-one : not s ≡ true → lengthsRefused 1 ≡ lengthsCall p
   unfolding lengthsCall
   lengths-one q = rw (failed es q)
+
+  pub length-one : (expected : ℕ) → not s ≡ true → lengthLeft 1 0 ≡ replyLengthCall p expected
+  unfolding replyLengthCall
+  length-one expected q = rw (failed es q)
 
   pub open-one : (st : State) → not s ≡ true → openLeft 1 st ≡ openCall p st
   unfolding openCall
@@ -42,6 +49,10 @@ module _ (p : Params) {s : Bool} (es : s ≡ samplesAllowed p) where
     pub lengths-two : not c ≡ true → lengthsRefused 2 ≡ lengthsCall p
     unfolding lengthsCall
     lengths-two w = rw (passed es q, failed ec w)
+
+    pub length-two : (expected : ℕ) → not c ≡ true → lengthLeft 2 0 ≡ replyLengthCall p expected
+    unfolding replyLengthCall
+    length-two expected w = rw (passed es q, failed ec w)
 
     pub open-two : (st : State) → not c ≡ true → openLeft 2 st ≡ openCall p st
     unfolding openCall
@@ -54,6 +65,10 @@ module _ (p : Params) {s : Bool} (es : s ≡ samplesAllowed p) where
       pub lengths-given : {at : Places} → at ≡ placesOf p → lengthsGiven at ≡ lengthsCall p
       unfolding lengthsCall
       lengths-given e = rw (passed es q, passed ec w) (ap lengthsGiven e)
+
+      pub length-given : (expected : ℕ) {size : ℕ} → size ≡ replyLength p expected → lengthLeft 0 size ≡ replyLengthCall p expected
+      unfolding replyLengthCall
+      length-given expected e = rw (passed es q, passed ec w) (ap (lengthLeft 0) e)
 
       module _ (st : State) {at : Places} (ea : at ≡ placesOf p) {z : Bool} (ez : z ≡ sizedOf at st) where
         sized-is : z ≡ sizedOf (placesOf p) st
@@ -121,3 +136,14 @@ module _ (st : State) (base : ℕ) (m : List ℕ) (frames : List Float) {t : Boo
           let x = e ∙ ap (λ (p : Params). renderedBy p base m st frames) ep in
           rw (passed et q, passed en w, le-leb (2 * paramsIn st .«sample_count») (length frames) (rw count-is at h))
           (λ i. renderLeft 0 (x i .rounds) (x i .state) (x i .frames))
+
+-- ---- mix_order: the answer t of question 4
+
+module _ (st : State) {t : Bool} (et : t ≡ wholeOf st) where
+  pub order-four : not t ≡ true → _≡_ {A = OrderOutcome} (record { number = 4; order = record { count = 0; mixes = replicate 31 0 } }) (orderCall st)
+  unfolding orderCall put
+  order-four q = rw (failed et q)
+
+  pub order-done : not t ≡ false → {p : Params} → p ≡ paramsIn st → {r : MixOrder} → r ≡ listedOf (orderBy p (st .words)) → orderGiven r ≡ orderCall st
+  unfolding orderCall
+  order-done q ep e = rw (passed et q) (ap orderGiven (e ∙ ap (λ (x : Params). listedOf (orderBy x (st .words))) ep))

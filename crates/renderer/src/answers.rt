@@ -1,4 +1,5 @@
 // What the calls answer. Beside each refusal stands its number.
+use desk_order::MixOrder;
 
 // How long the five slices of a renderer's state must be.
 pub struct Lengths {
@@ -11,6 +12,15 @@ pub struct Lengths {
 
 pub enum LengthsAnswer {
     Lengths(Lengths),
+    // 1: samples per render
+    Samples,
+    // 2: another count
+    Counts,
+}
+
+pub enum ReplyLengthAnswer {
+    // The length of the reply.
+    Length(usize),
     // 1: samples per render
     Samples,
     // 2: another count
@@ -45,4 +55,12 @@ pub enum RenderAnswer {
     FarMemory,
     // 7: the frame slice
     ShortFrames,
+}
+
+// An enum can't hold an array here, so the number stands beside it.
+pub struct OrderAnswer {
+    // 4: the state
+    pub number: u32,
+    // The sub-mixes that run, in their sequence; none where the call is refused.
+    pub order: MixOrder,
 }

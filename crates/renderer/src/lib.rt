@@ -1,18 +1,21 @@
-// The calls that a title may make on a renderer, which is five lent slices. Each asks document 01's questions in their sequence; the first "no" is the
+// The calls that a title may make on a renderer, which is five lent slices. Each asks its questions (docs/QUESTIONS.md) in their sequence; the first "no" is the
 // answer, and then nothing that is lent changes.
 mod answers;
 
 pub use answers::Lengths;
 pub use answers::LengthsAnswer;
 pub use answers::OpenAnswer;
+pub use answers::OrderAnswer;
 pub use answers::RenderAnswer;
+pub use answers::ReplyLengthAnswer;
 pub use answers::UpdateAnswer;
 ghost use mathlib.Core.Path.{_≡_};
 ghost use Prim.Native.Nat.{_+_, _^_};
 ghost use lib.Dec.{leb};
 ghost use Rattle.state.specs.State.{stateOf};
-ghost use Rattle.calls.specs.Calls.{lengthsCall, openCall, updateCall, renderCall};
-ghost use Rattle.renderer.specs.Answers.{lengthsSeen, openSeen, updateSeen, renderSeen};
+ghost use Rattle.calls.specs.Calls.{lengthsCall, replyLengthCall, openCall, updateCall, renderCall, orderCall};
+ghost use Rattle.renderer.specs.Answers.{lengthsSeen, replyLengthSeen, openSeen, updateSeen, renderSeen, orderSeen};
+use desk_order::MixOrder;
 use params::Params;
 
 // How long the slices of a renderer with these parameters must be.
@@ -33,6 +36,19 @@ pub fn lengths(p: Params) -> LengthsAnswer
         contexts: at.contexts,
         history: at.history,
     })
+}
+
+// How long the reply to an update is, where the title expects so many bytes.
+pub fn reply_length(p: Params, expected: u32) -> ReplyLengthAnswer
+    ensures { λ r. ⌜ replyLengthSeen r ≡ replyLengthCall p expected ⌝ }
+{
+    if !whole::samples_allowed(p) {
+        return ReplyLengthAnswer::Samples;
+    }
+    if !whole::counts_allowed(p) {
+        return ReplyLengthAnswer::Counts;
+    }
+    ReplyLengthAnswer::Length(p.reply_length(expected))
 }
 
 // Makes the state of a renderer, whatever the slices held before.
@@ -153,4 +169,25 @@ pub fn render(
         frames,
     );
     RenderAnswer::Rendered(rounds)
+}
+
+// The sub-mixes that a render of this state runs, in their sequence.
+pub fn mix_order(
+    words: &[u32],
+    longs: &[u64],
+    floats: &[f32],
+    contexts: &[u16],
+    history: &[f32],
+) -> OrderAnswer
+    ensures { λ r. ⌜ orderSeen r ≡ orderCall (stateOf (now (words .entry)) (now (longs .entry)) (now (floats .entry)) (now (contexts .entry)) (now (history .entry))) ⌝ }
+{
+    if !whole::whole(words, longs, floats, contexts, history) {
+        let order = MixOrder {
+            count: 0,
+            mixes: [0u32; 31],
+        };
+        return OrderAnswer { number: 4, order };
+    }
+    let order = desk_render::mix_order(Params::load(words), words);
+    OrderAnswer { number: 0, order }
 }

@@ -1,5 +1,5 @@
 -- Demand 3's condition holds of sessions whose memories differ, and the frames are then equal: two voices, of which one is never
--- routed; a render that is refused; bytes that no voice declares. A condition that asks more than document 01 does fails here.
+-- routed; a render that is refused; bytes that no voice declares. A condition that asks for more than these agree on fails here.
 -- Assumes nothing.
 use mathlib.Core.Path.{_≡_, refl}
 use mathlib.Core.Bool.{true, false}

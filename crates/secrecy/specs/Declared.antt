@@ -1,4 +1,4 @@
--- The bytes of sample memory that a voice declares, and when it is routed, as document 01 words it. Definitions only.
+-- The bytes of sample memory that a voice declares, and when it is routed, as docs/QUESTIONS.md words it. Definitions only.
 use mathlib.Core.Path.{_≡_}
 use mathlib.Core.Bool.{Bool, true, false, cond, _||_}
 use mathlib.Core.List.{List, [], _∷_, _++_, List·Memᴰ}

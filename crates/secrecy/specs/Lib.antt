@@ -9,6 +9,7 @@ pub mod Steps
 pub mod Lists
 pub mod Opens
 pub mod Secrecy
+pub mod Orders
 pub mod Kept
 pub mod Range
 pub mod Computing

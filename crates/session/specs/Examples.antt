@@ -1,4 +1,4 @@
--- Document 01's worked session, and inputs near it: what a definition gives beside what is to come out. Assumes nothing.
+-- The worked session of docs/QUESTIONS.md, and inputs near it: what a definition gives beside what is to come out. Assumes nothing.
 use mathlib.Core.Path.{_≡_, refl}
 use mathlib.Core.Bool.{true, false}
 use mathlib.Core.List.{List, [], _∷_, _++_}

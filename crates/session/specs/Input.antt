@@ -1,4 +1,4 @@
--- The session program's input: three sections, each after its 32-bit count (document 01, "The session program"). Definitions only.
+-- The session program's input: three sections, each after its 32-bit count (docs/QUESTIONS.md, "The session program"). Definitions only.
 use mathlib.Core.Bool.{Bool, true, false}
 use mathlib.Core.List.{List}
 use Prim.Native.Nat.{ℕ, _+_}

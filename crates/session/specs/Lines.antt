@@ -1,4 +1,4 @@
--- The lines that the session program prints (document 01, "The session program"). Definitions only.
+-- The lines that the session program prints (docs/QUESTIONS.md, "The session program"). Definitions only.
 use mathlib.Core.Bool.{Bool, true, false}
 use mathlib.Core.List.{List, [], _∷_, _++_}
 use Prim.Native.Nat.{ℕ, _+_, _*_, _/_}

@@ -1,4 +1,4 @@
--- Question 10 (document 01, "Questions put to a call"). Definitions only.
+-- Question 10 (docs/QUESTIONS.md). Definitions only.
 use mathlib.Core.Bool.{Bool, _&&_}
 use mathlib.Core.List.{List}
 use Prim.Native.Nat.{ℕ, zero, suc}

@@ -1,4 +1,4 @@
--- The lines of a whole run (document 01, "The session program"): question 10, the length call, the open, and then the calls up to the first
+-- The lines of a whole run (docs/QUESTIONS.md, "The session program"): question 10, the length call, the open, and then the calls up to the first
 -- refusal. Definitions only.
 use mathlib.Core.Path.{_≡_}
 use mathlib.Core.Bool.{Bool, true, false, cond}

@@ -1,4 +1,4 @@
--- Questions 1 and 2: document 01's "Counts allowed", as tests. Assumes nothing.
+-- Questions 1 and 2 (docs/QUESTIONS.md): the counts that are allowed, as tests. Assumes nothing.
 use mathlib.Core.Path.{_≡_}
 use mathlib.Core.Bool.{Bool, true}
 use mathlib.Core.List.{List, [], _∷_}

@@ -11,7 +11,7 @@ render-mixes-requires c κs =
     let start = found .before .before .before .before .before in
     let e = found .places-of .ensures .1 in
     let h = start .pre .0 in
-    (mixes-lent e h, (lists-lent e h, ((volumes-long e h, destinations-long e h), (h .allowed .some-samples, h .allowed .samples, start .pre .1))))
+    (mixes-lent e _ (h .mixes), (lists-lent e _ (h .lists), ((volumes-long e h, destinations-long e h), (h .allowed .some-samples, h .allowed .samples, start .pre .1))))
 
 returns : tie.Need-returns
 returns c =

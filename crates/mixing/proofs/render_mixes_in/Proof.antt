@@ -2,7 +2,7 @@
 use borrow.Author.Needs.{needs}
 use Rattle.desk_order.specs.Laws.{mix-order-below}
 use Rattle.mixing.specs.Laws.{mixed-down-from}
-use Rattle.mixing.proofs.Front.{front-long, front-fits, front-below}
+use Rattle.desk_order.proofs.Front.{front-long, front-fits, front-below}
 use Rattle.mixing.proofs.render_mixes_in.Statement.{statement}
 use Rattle.mixing.proofs.render_mixes_in.Tie as tie
 
