@@ -1,4 +1,5 @@
-//! An update and a render of a typical title against kirikae's, from the same state, call after call.
+//! Updates and renders of typical titles against kirikae's, from the same state, call after call.
+mod desks;
 #[path = "../compare/generate.rs"]
 mod generate;
 #[path = "../compare/inputs.rs"]
@@ -72,20 +73,42 @@ fn state(desk: &Desk, memory: usize) -> Slices {
     s
 }
 
-/// The median over many runs, taken in turn, of port over Rust.
-fn ratio(name: &str, mut port: impl FnMut(), mut rust: impl FnMut()) {
+/// The median over many runs, taken in turn, of port over Rust; each run is of so many calls.
+fn ratio(name: &str, times: usize, mut port: impl FnMut(), mut rust: impl FnMut()) {
     let mut ratios: Vec<f64> = (0..301)
         .map(|_| {
             let t = Instant::now();
-            (0..10).for_each(|_| port());
+            (0..times).for_each(|_| port());
             let a = t.elapsed().as_secs_f64();
             let t = Instant::now();
-            (0..10).for_each(|_| rust());
+            (0..times).for_each(|_| rust());
             a / t.elapsed().as_secs_f64()
         })
         .collect();
     ratios.sort_by(f64::total_cmp);
     println!("{name}: {:.2}", ratios[150]);
+}
+
+/// Renders of both from the same state: 200 that must be the same, and then timed ones.
+fn renders(name: &str, times: usize, samples: usize, sounds: bool, mut s: Slices, probe: &Probe, memory: &[u8]) {
+    let mem = Memory { base: BASE, bytes: memory };
+    let mut frames = vec![0.0; 2 * samples];
+    for _ in 0..200 {
+        assert_eq!(port::render(&mut s, BASE, memory, &mut frames).number, 0, "{name}");
+        let theirs = probe.render(&mem);
+        assert!(frames.iter().zip(theirs.as_flattened()).all(|(x, y)| bits(*x) == bits(*y)), "{name}: frames differ");
+    }
+    assert_eq!(sounds, frames.iter().any(|&x| x != 0.0), "{name}");
+    ratio(
+        &format!("render, {name}"),
+        times,
+        || {
+            black_box(port::render(&mut s, BASE, black_box(memory), &mut frames));
+        },
+        || {
+            black_box(probe.render(black_box(&mem)));
+        },
+    );
 }
 
 fn main() {
@@ -100,23 +123,12 @@ fn main() {
         Desk { name: "silent", sounds: false, rates: [48000; 3], adpcm: true },
     ] {
         let before = state(&desk, memory.len());
-        let (mut s, probe) = (before.clone(), Probe::restore(&before));
-        let (mut frames, mem) = (vec![0.0; 2 * SAMPLES], Memory { base: BASE, bytes: &memory });
-        for _ in 0..200 {
-            assert_eq!(port::render(&mut s, BASE, &memory, &mut frames).number, 0);
-            let theirs: Vec<f32> = probe.render(&mem).into_iter().flatten().collect();
-            assert!(frames.iter().zip(&theirs).all(|(x, y)| bits(*x) == bits(*y)), "{}: frames differ", desk.name);
-        }
-        assert_eq!(desk.sounds, frames.iter().any(|&x| x != 0.0), "{}", desk.name);
-        ratio(
-            &format!("render, 24 voices, 240 samples, {}", desk.name),
-            || {
-                black_box(port::render(&mut s, BASE, black_box(&memory), &mut frames));
-            },
-            || {
-                black_box(probe.render(black_box(&mem)));
-            },
-        );
+        let probe = Probe::restore(&before);
+        renders(&format!("24 voices, 240 samples, {}", desk.name), 10, SAMPLES, desk.sounds, before, &probe, &memory);
+    }
+    for desk in desks::DESKS {
+        let (s, probe) = desk.open(memory.len());
+        renders(desk.name, desk.times, desk.samples, desk.sounds(), s, &probe, &memory);
     }
 
     let before = state(&Desk { name: "", sounds: true, rates: [48000, 44100, 32000], adpcm: true }, memory.len());
@@ -135,6 +147,7 @@ fn main() {
     }
     ratio(
         &format!("update, 24 voices, {} bytes", input.len()),
+        10,
         || {
             black_box(port::update(&mut s, 0x2000, black_box(&input), &mut reply));
         },

@@ -8,7 +8,7 @@ use native.Mathlib.Omega.{arith}
 use lib.ListN.{length, take, drop, set, getD, length-set}
 use lib.Seq.{take-suc-set, drop-set-lt, drop-cons, append-snoc, take-length, drop-length}
 use lib.Ieee.{Float, nan, binary32, add, mul}
-use Rattle.gain.specs.Gain.{ramped, mixed, level}
+use Rattle.gain.specs.Gain.{ramped, scaled, mixed, level}
 
 -- f is what is still to do on the elements from i on, of n in all
 pub record Doing (f : List Float → List Float) (n : ℕ) (whole xs : List Float) (i : ℕ) : Type 0 where
@@ -42,6 +42,11 @@ pub ramped-at : (step v : Float) (xs : List Float) (i : ℕ) → i < length xs
     → ramped step v (drop i xs) ≡ mul binary32 (getD xs i nan) v ∷ ramped step (add binary32 v step) (drop (suc i) xs)
 unfolding ramped
 ramped-at step v xs i h = rw (drop-cons xs i nan h)
+
+pub scaled-at : (v : Float) (xs : List Float) (i : ℕ) → i < length xs
+    → scaled v (drop i xs) ≡ mul binary32 (getD xs i nan) v ∷ scaled v (drop (suc i) xs)
+unfolding scaled
+scaled-at v xs i h = rw (drop-cons xs i nan h)
 
 pub mixed-at : (step v : Float) (ds ss : List Float) (i : ℕ) → i < length ds → i < length ss
     → mixed step v (drop i ds) (drop i ss)

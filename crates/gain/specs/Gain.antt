@@ -18,6 +18,11 @@ unfoldable pub ramped : Float → Float → List Float → List Float
 ramped step v [] = []
 ramped step v (x ∷ xs) = mul binary32 x v ∷ ramped step (add binary32 v step) xs
 
+-- the same with one gain throughout
+unfoldable pub scaled : Float → List Float → List Float
+scaled v [] = []
+scaled v (x ∷ xs) = mul binary32 x v ∷ scaled v xs
+
 -- each of ds and, where there is one beside it, the sample of ss times the gain v, which grows by `step` after each
 unfoldable pub mixed : Float → Float → List Float → List Float → List Float
 mixed step v [] ss = []

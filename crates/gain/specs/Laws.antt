@@ -9,7 +9,7 @@ use lib.Ieee.{Float, binary32, eq, add}
 use borrow.Author.Tests.{le-leb, lt-leb, leb-true}
 use Rattle.floats.specs.Defs.{zero32, one}
 use Rattle.rows.specs.Rows.{put, part, length-put, length-part}
-use Rattle.gain.specs.Gain.{stepOf, ramped, mixed, level, rampOf, mixInto}
+use Rattle.gain.specs.Gain.{stepOf, ramped, scaled, mixed, level, rampOf, mixInto}
 
 -- ---- a ramp
 pub length-ramped : (step v : Float) (xs : List Float) → length (ramped step v xs) ≡ length xs
@@ -32,12 +32,18 @@ length-mixed step v [] ss = refl
 length-mixed step v (d ∷ ds) [] = refl
 length-mixed step v (d ∷ ds) (s ∷ ss) = ap suc (length-mixed step (add binary32 v step) ds ss)
 
--- a gain that its step does not move stays the same throughout
-pub level-is : (step v : Float) → add binary32 v step ≡ v → (ds ss : List Float) → level v ds ss ≡ mixed step v ds ss
-unfolding mixed level
-level-is step v h [] ss = refl
-level-is step v h (d ∷ ds) [] = refl
-level-is step v h (d ∷ ds) (s ∷ ss) = rw (h, level-is step v h ds ss)
+-- ---- a gain that its step does not move stays the same throughout
+module _ (step v : Float) (h : add binary32 v step ≡ v) where
+  pub scaled-is : (xs : List Float) → scaled v xs ≡ ramped step v xs
+  unfolding ramped scaled
+  scaled-is [] = refl
+  scaled-is (x ∷ xs) = rw (h, scaled-is xs)
+
+  pub level-is : (ds ss : List Float) → level v ds ss ≡ mixed step v ds ss
+  unfolding mixed level
+  level-is [] ss = refl
+  level-is (d ∷ ds) [] = refl
+  level-is (d ∷ ds) (s ∷ ss) = rw (h, level-is ds ss)
 
 -- ---- a send
 module _ (buffers : List Float) (buffer n : ℕ) (src : List Float) (from to : Float) where

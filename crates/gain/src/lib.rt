@@ -4,7 +4,7 @@ ghost use mathlib.Core.Bool.{true, _&&_};
 ghost use Prim.Native.Nat.{_^_, _≤_, _<_};
 ghost use lib.ListN.{length};
 ghost use lib.Ieee.{binary32, eq, add};
-ghost use Rattle.gain.specs.Gain.{stepOf, ramped, mixed, level, rampOf, mixInto};
+ghost use Rattle.gain.specs.Gain.{stepOf, ramped, scaled, mixed, level, rampOf, mixInto};
 
 // Whether both gains are v.
 fn both(from: f32, to: f32, v: f32) -> bool
@@ -37,6 +37,17 @@ fn ramp_by(s: &mut [f32], from: f32, step: f32)
     }
 }
 
+// Each sample times one gain. No turn waits for the one before it.
+fn ramp_level(s: &mut [f32], gain: f32)
+    ensures { λ _. ⌜ now (s .exit) ≡ scaled gain (now (s .entry)) ⌝ }
+{
+    let mut i = 0;
+    while i < s.len() {
+        s[i] = s[i] * gain;
+        i += 1;
+    }
+}
+
 // Each sample times a gain that goes from `from` to `to`; both gains 1 change nothing.
 pub fn ramp(s: &mut [f32], from: f32, to: f32)
     requires { ⌜ length (now s) < 2 ^ 32 ⌝ }
@@ -46,7 +57,11 @@ pub fn ramp(s: &mut [f32], from: f32, to: f32)
         return;
     }
     let step = step_of(from, to, s.len() as u32);
-    ramp_by(s, from, step);
+    if !steady(from, step) {
+        ramp_by(s, from, step);
+        return;
+    }
+    ramp_level(s, from);
 }
 
 // The samples of s, times a gain that begins at `from` and grows by `step` after each, added to those of d.

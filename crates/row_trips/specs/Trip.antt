@@ -1,5 +1,5 @@
 -- A voice that is stored and loaded is the same, and so is a whole row that is loaded and stored. Assumes nothing.
-use mathlib.Core.Path.{_≡_, refl, sym, _∙_}
+use mathlib.Core.Path.{_≡_, sym, _∙_}
 use mathlib.Core.Bool.{Bool, false}
 use mathlib.Core.List.{List, [], _∷_, _++_}
 use Prim.Native.Nat.{ℕ, _+_, _≤_, _<_}
@@ -13,6 +13,7 @@ use Rattle.voice.specs.declared.Voice.{Voice}
 use Rattle.voice.specs.Queue.{noBuffer}
 use Rattle.voice_rows.specs.WaveRow.{waveFrom, wordsFromWave, longsFromWave, waveOf, wordsOfWave, longsOfWave}
 use Rattle.voice_rows.specs.VoiceRow.{playOf, wordOfPlay, voiceOf, headOf, topOf, wordsOf, longsOf, floatsOf}
+use Rattle.voice_rows.specs.IdleRow.{StoredWave, StoredRow}
 use Rattle.sound_rows.specs.Spelled.{spelled, part-at, part-on, part-whole}
 use Rattle.row_trips.specs.Marks.{flag-again, flag-word, play-again, play-word}
 
@@ -77,22 +78,12 @@ voice-again v h x y z =
 
 -- ---- load, then store
 
--- the largest that each word of a row may be: 1 for a flag, 3 for the play mark
-unfoldable pub wordLimits : List ℕ
-wordLimits =
-    1 ∷ 1 ∷ 3 ∷ any ∷ any ∷ any ∷ any ∷ any ∷ any ∷ any ∷ any ∷ any ∷ any ∷ any ∷ any ∷ any ∷ any ∷ any ∷ 1 ∷ 1 ∷ 1 ∷ 1 ∷ any ∷ any ∷ any ∷ any
-    ∷ any ∷ any ∷ 1 ∷ 1 ∷ any ∷ any ∷ any ∷ 1 ∷ any ∷ any ∷ 1 ∷ 1 ∷ any ∷ any ∷ any ∷ 1
-    ∷ any ∷ any ∷ 1 ∷ 1 ∷ any ∷ any ∷ any ∷ 1 ∷ any ∷ any ∷ 1 ∷ 1 ∷ any ∷ any ∷ any ∷ 1 ∷ []
-  where
-    any : ℕ
-    any = 0xffffffff
-
 -- a row that a voice can be
 pub record WholeRow (w l : List ℕ) (f : List Float) : Type 0 where
   pub words : length w ≡ 58
   pub longs : length l ≡ 14
   pub floats : length f ≡ 4
-  pub within : (k : ℕ) → k < 58 → getD w k 0 ≤ getD wordLimits k 0
+  pub stored : StoredRow w
 
 part-length {ℓ} : {A : Type ℓ} (w at : ℕ) (s : List A) → at + w ≤ length s → length (part w at s) ≡ w
 unfolding part
@@ -110,33 +101,39 @@ wave-longs r l h = spelled 3 0 l h
 
 module _ (w l : List ℕ) (f : List Float) (h : WholeRow w l f) where
   -- a flag of a part
-  flag-in : (n at k : ℕ) → k < n → at + k < 58 → getD wordLimits (at + k) 0 ≡ 1 → getD (part n at w) k 0 ≤ 1
-  flag-in n at k a b e = rw (part-at n at w k 0 a, ← e) (h .within (at + k) b)
+  flag-in : (n at k : ℕ) → k < n → getD w (at + k) 0 ≤ 1 → getD (part n at w) k 0 ≤ 1
+  flag-in n at k a s = rw (part-at n at w k 0 a) s
 
-  wave-part : (at : ℕ) → at + 8 ≤ 58 → getD wordLimits (at + 2) 0 ≡ 1 → getD wordLimits (at + 3) 0 ≡ 1 → getD wordLimits (at + 7) 0 ≡ 1
-      → (m : List ℕ) → wordsOfWave (waveOf (part 8 at w) m) ≡ part 8 at w
-  wave-part at b e₂ e₃ e₇ m =
+  wave-part : (at : ℕ) → at + 8 ≤ 58 → StoredWave w at → (m : List ℕ) → wordsOfWave (waveOf (part 8 at w) m) ≡ part 8 at w
+  wave-part at b s m =
       wave-words (part 8 at w) m (part-length 8 at w (rw (h .words) b))
-      (flag-in 8 at 2 (omega arith) (omega arith) e₂) (flag-in 8 at 3 (omega arith) (omega arith) e₃) (flag-in 8 at 7 (omega arith) (omega arith) e₇)
+      (flag-in 8 at 2 (omega arith) (s .looping)) (flag-in 8 at 3 (omega arith) (s .end-of-stream))
+      (flag-in 8 at 7 (omega arith) (s .pending))
 
   head-again : headOf (voiceOf w l f) ≡ part 26 0 w
-  unfolding headOf voiceOf wordLimits
+  unfolding headOf voiceOf
   head-again =
       let r = part 26 0 w in
-      let p : wordOfPlay (playOf (getD w 2 0)) ≡ getD r 2 0 = play-word (getD w 2 0) (h .within 2 (omega arith)) ∙ sym (part-at 26 0 w 2 0 (omega arith)) in
-      (λ i. flag-word (getD r 0 0) (flag-in 26 0 0 (omega arith) (omega arith) refl) i ∷ flag-word (getD r 1 0) (flag-in 26 0 1 (omega arith) (omega arith) refl) i ∷ p i
+      let s = h .stored in
+      let p : wordOfPlay (playOf (getD w 2 0)) ≡ getD r 2 0 = play-word (getD w 2 0) (s .play) ∙ sym (part-at 26 0 w 2 0 (omega arith)) in
+      (λ i. flag-word (getD r 0 0) (flag-in 26 0 0 (omega arith) (s .used)) i
+      ∷ flag-word (getD r 1 0) (flag-in 26 0 1 (omega arith) (s .fresh)) i ∷ p i
       ∷ getD r 3 0 ∷ getD r 4 0 ∷ getD r 5 0 ∷ getD r 6 0 ∷ getD r 7 0 ∷ getD r 8 0 ∷ getD r 9 0 ∷ getD r 10 0 ∷ getD r 11 0
       ∷ getD r 12 0 ∷ getD r 13 0 ∷ getD r 14 0 ∷ getD r 15 0 ∷ getD r 16 0 ∷ getD r 17 0
-      ∷ flag-word (getD r 18 0) (flag-in 26 0 18 (omega arith) (omega arith) refl) i ∷ flag-word (getD r 19 0) (flag-in 26 0 19 (omega arith) (omega arith) refl) i
-      ∷ flag-word (getD r 20 0) (flag-in 26 0 20 (omega arith) (omega arith) refl) i ∷ flag-word (getD r 21 0) (flag-in 26 0 21 (omega arith) (omega arith) refl) i
+      ∷ flag-word (getD r 18 0) (flag-in 26 0 18 (omega arith) (s .valid 0 (omega arith))) i
+      ∷ flag-word (getD r 19 0) (flag-in 26 0 19 (omega arith) (s .valid 1 (omega arith))) i
+      ∷ flag-word (getD r 20 0) (flag-in 26 0 20 (omega arith) (s .valid 2 (omega arith))) i
+      ∷ flag-word (getD r 21 0) (flag-in 26 0 21 (omega arith) (s .valid 3 (omega arith))) i
       ∷ getD r 22 0 ∷ getD r 23 0 ∷ getD r 24 0 ∷ getD r 25 0 ∷ [])
       ∙ spelled 26 0 r (part-length 26 0 w (rw (h .words) (omega arith)))
 
   pub words-again : wordsOf (voiceOf w l f) ≡ w
-  unfolding wordsOf voiceOf wordLimits
+  unfolding wordsOf voiceOf
   words-again =
-      (λ i. (((head-again i ++ wave-part 26 (omega arith) refl refl refl (part 3 2 l) i) ++ wave-part 34 (omega arith) refl refl refl (part 3 5 l) i)
-      ++ wave-part 42 (omega arith) refl refl refl (part 3 8 l) i) ++ wave-part 50 (omega arith) refl refl refl (part 3 11 l) i)
+      let s = h .stored .waves in
+      (λ i. (((head-again i ++ wave-part 26 (omega arith) (s 0 (omega arith)) (part 3 2 l) i)
+      ++ wave-part 34 (omega arith) (s 1 (omega arith)) (part 3 5 l) i)
+      ++ wave-part 42 (omega arith) (s 2 (omega arith)) (part 3 8 l) i) ++ wave-part 50 (omega arith) (s 3 (omega arith)) (part 3 11 l) i)
       ∙ (λ i. ((part-on 26 8 w i ++ part 8 34 w) ++ part 8 42 w) ++ part 8 50 w)
       ∙ (λ i. (part-on 34 8 w i ++ part 8 42 w) ++ part 8 50 w)
       ∙ (λ i. part-on 42 8 w i ++ part 8 50 w)

@@ -16,6 +16,7 @@ use Rattle.voice.specs.declared.sound.Sound.{Sound}
 use Rattle.voice.specs.declared.ready.Prepared.{Prepared}
 use Rattle.voice.specs.Sound.{silentSound}
 use Rattle.voice_rows.specs.VoiceRow.{voiceOf, wordsOf, longsOf, floatsOf}
+use Rattle.voice_rows.specs.IdleRow.{IdleRow}
 use Rattle.sound_rows.specs.SoundRow.{contextsOf, historyOf}
 use Rattle.voice_sends.specs.Sending.{Ids, takenOver}
 use Rattle.turn.specs.Turn.{takesPart, beginOf}
@@ -28,6 +29,10 @@ voiceOn k words longs floats = voiceOf (part 58 (10 + k * 58) words) (part 14 (1
 
 abbrev pub voiceIn : ℕ → State → Voice
 voiceIn k st = voiceOn k (st .words) (st .longs) (st .floats)
+
+-- it has nothing to do, as its words say
+abbrev pub Idle : ℕ → List ℕ → Type 0
+Idle k words = IdleRow (part 58 (10 + k * 58) words)
 
 -- the state with v as voice k
 abbrev pub putVoice : ℕ → Voice → State → State

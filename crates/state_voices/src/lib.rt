@@ -1,6 +1,7 @@
 // Voice k in a renderer's state: loaded, stored, and what its turn does before it fetches (mixer.rs `render_voice`).
 ghost use mathlib.Core.Path.{_≡_};
-ghost use Prim.Native.Nat.{_+_, _*_, _≤_};
+ghost use mathlib.Core.Bool.{true};
+ghost use Prim.Native.Nat.{_+_, _*_, _≤_, _<_};
 ghost use lib.ListN.{length};
 ghost use Rattle.rows.specs.Rows.{part, put};
 ghost use Rattle.params.specs.Sizes.{Allowed};
@@ -9,18 +10,34 @@ ghost use Rattle.voice.specs.Sound.{silentSound};
 ghost use Rattle.sound_rows.specs.SoundRow.{contextsOf, historyOf};
 ghost use Rattle.voice_rows.specs.VoiceRow.{wordsOf, longsOf, floatsOf};
 ghost use Rattle.voice_sends.specs.Sending.{Ids, takenOver};
-ghost use Rattle.state_voices.specs.StateVoices.{voiceOn, freshFloats, unready, storedBy, begun, begunOf, Beginning, PositionInside, SoundInside};
+ghost use Rattle.state_voices.specs.StateVoices.{voiceOn, Idle, freshFloats, unready, storedBy, begun, begunOf};
+ghost use Rattle.state_voices.specs.StateVoices.{Beginning, PositionInside, SoundInside};
 use params::Params;
 use voice::Prepared;
 use voice::Voice;
+
+// Words before those of the voices, and of a voice.
+const FIRST_WORD: usize = 10;
+
+const VOICE_WORDS: usize = 58;
+
+// Whether voice k has nothing to do, as its words alone say: its turn then changes nothing.
+pub fn idle(k: usize, words: &[u32]) -> bool
+    requires { ⌜ (k < 64) × (10 + k * 58 + 58 ≤ length (now words)) ⌝ }
+    ensures { λ r. ⌜ (r ≡ true → Idle k (now (words .entry))) ⌝ }
+{
+    let w = FIRST_WORD + k * VOICE_WORDS;
+    let we = w + VOICE_WORDS;
+    voice_rows::idle(&words[w..we])
+}
 
 // Voice k.
 fn load_voice_at(k: usize, words: &[u32], longs: &[u64], floats: &[f32]) -> Voice
     requires { ⌜ PositionInside k (now words) (now longs) (now floats) ⌝ }
     ensures { λ r. ⌜ r ≡ voiceOn k (now (words .entry)) (now (longs .entry)) (now (floats .entry)) ⌝ }
 {
-    let w = 10 + k * 58;
-    let we = w + 58;
+    let w = FIRST_WORD + k * VOICE_WORDS;
+    let we = w + VOICE_WORDS;
     let l = 1 + k * 14;
     let le = l + 14;
     let f = k * 4;
@@ -35,7 +52,15 @@ pub fn store_voice_at(k: usize, v: Voice, words: &mut [u32], longs: &mut [u64], 
     ensures { λ _. ⌜ now (longs .exit) ≡ put (now (longs .entry)) (1 + k * 14) (longsOf v) ⌝ }
     ensures { λ _. ⌜ now (floats .exit) ≡ put (now (floats .entry)) (k * 4) (floatsOf v) ⌝ }
 {
-    voice_rows::store_voice(v, words, 10 + k * 58, longs, 1 + k * 14, floats, k * 4);
+    voice_rows::store_voice(
+        v,
+        words,
+        FIRST_WORD + k * VOICE_WORDS,
+        longs,
+        1 + k * 14,
+        floats,
+        k * 4,
+    );
 }
 
 // The sound of voice k becomes silent.

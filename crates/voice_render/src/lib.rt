@@ -27,6 +27,9 @@ pub fn render_voice(
     requires { ⌜ Renderable p r (now memory) (stateOf (now words) (now longs) (now floats) (now contexts) (now history)) ⌝ ∗ ⌜ k < p .voices ⌝ ∗ ⌜ Playable p k (stateOf (now words) (now longs) (now floats) (now contexts) (now history)) ⌝ ∗ ⌜ Room p (now src) (now out) ⌝ }
     ensures { λ rounds. ⌜ ((n : ℕ) → studio (stateOf (now (words .exit)) (now (longs .exit)) (now (floats .exit)) (now (contexts .exit)) (now (history .exit))) (now (buffers .exit)) (n + rounds) ≡ renderVoice p r (now (memory .entry)) k (studio (stateOf (now (words .entry)) (now (longs .entry)) (now (floats .entry)) (now (contexts .entry)) (now (history .entry))) (now (buffers .entry)) n)) ⌝ }
 {
+    if state_voices::idle(k, words) {
+        return 0;
+    }
     let b = state_voices::begin_voice(p, k, words, longs, floats, contexts, history);
     if b.ready {
         let v = b.voice;

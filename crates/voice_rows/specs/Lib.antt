@@ -1,2 +1,3 @@
 pub mod WaveRow
 pub mod VoiceRow
+pub mod IdleRow
