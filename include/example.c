@@ -1,4 +1,4 @@
-/* Opens a renderer with 2 samples, renders, updates, and prints what the session program prints for the same calls.
+/* Opens a renderer with 2 samples, renders, updates, and prints what the session program prints for the same calls. C99 and C++98.
  *
  *     rt staticlib cabi && cc -std=c99 -Iinclude -o target/example include/example.c target/staticlib/libcabi.a && target/example */
 #include <stdio.h>
@@ -9,62 +9,77 @@
 
 #define SAMPLES 2
 
-/* Zeros for n elements, and never NULL. */
+static void check(uint32_t number) {
+    if (number != JEQLLUNA_OK) {
+        printf("refused %u: %s\n", (unsigned)number, jeqlluna_refusal(number));
+        exit(1);
+    }
+}
+
+/* Room for n elements; NULL is as good as any pointer where there are none. */
 static void *room(size_t n, size_t size) {
-    void *p = calloc(n + 1, size);
-    if (p == NULL) {
+    void *p = n == 0 ? NULL : calloc(n, size);
+    if (n != 0 && p == NULL) {
         exit(2);
     }
     return p;
 }
 
-static void check(uint32_t number) {
-    if (number != JEQLLUNA_OK) {
-        printf("refused %u\n", (unsigned)number);
-        exit(1);
-    }
-}
-
-int main(void) {
-    const uint8_t parameters[JEQLLUNA_PARAMETERS] = {[0x04] = SAMPLES, [0x30] = 'R', 'E', 'V', '5'};
-    JeqllunaLengths n = jeqlluna_lengths(parameters, sizeof parameters);
-    check(n.number);
-    uint32_t *words = room(n.words, sizeof *words);
-    uint64_t *longs = room(n.longs, sizeof *longs);
-    float *floats = room(n.floats, sizeof *floats);
-    uint16_t *contexts = room(n.contexts, sizeof *contexts);
-    float *history = room(n.history, sizeof *history);
-    check(jeqlluna_open(parameters, sizeof parameters, words, n.words, longs, n.longs, floats, n.floats, contexts, n.contexts, history, n.history));
-
-    const uint8_t memory[1] = {0};
-    float frames[2 * SAMPLES];
-    JeqllunaRender r = jeqlluna_render(
-        words, n.words, longs, n.longs, floats, n.floats, contexts, n.contexts, history, n.history, 0x10000, memory, 0, frames, 2 * SAMPLES);
-    check(r.number);
+static void print_frames(const float *frames) {
+    int k;
     printf("frames %d", SAMPLES);
-    for (int k = 0; k < 2 * SAMPLES; k++) {
+    for (k = 0; k < 2 * SAMPLES; k++) {
         uint32_t bits;
         memcpy(&bits, &frames[k], sizeof bits);
         printf(" %08x", (unsigned)bits);
     }
+    printf("\n");
+}
 
-    const uint8_t input[1] = {0};
-    uint8_t reply[272];
-    JeqllunaUpdate u = jeqlluna_update(
-        words, n.words, longs, n.longs, floats, n.floats, contexts, n.contexts, history, n.history, sizeof reply, input, 0, reply, sizeof reply);
-    check(u.number);
-    printf("\nreply %zu", u.size);
-    for (size_t k = 0; k < u.size; k += 4) {
+static void print_reply(const uint8_t *reply, size_t size) {
+    size_t k, b;
+    printf("reply %lu", (unsigned long)size);
+    for (k = 0; k < size; k += 4) {
         uint32_t word = 0;
-        for (size_t b = 0; b < 4 && k + b < u.size; b++) {
+        for (b = 0; b < 4 && k + b < size; b++) {
             word |= (uint32_t)reply[k + b] << 8 * b;
         }
         if (word != 0) {
-            printf(" %04zx:%08x", k, (unsigned)word);
+            printf(" %04lx:%08x", (unsigned long)k, (unsigned)word);
         }
     }
     printf("\n");
+}
 
-    free(words), free(longs), free(floats), free(contexts), free(history);
+int main(void) {
+    uint8_t parameters[JEQLLUNA_PARAMETERS] = {0}, *reply;
+    parameters[0x04] = SAMPLES;
+    memcpy(parameters + 0x30, "REV5", 4);
+
+    JeqllunaLengths n = jeqlluna_lengths(parameters, sizeof parameters);
+    check(n.number);
+    uint32_t *words = (uint32_t *)room(n.words, sizeof *words);
+    uint64_t *longs = (uint64_t *)room(n.longs, sizeof *longs);
+    float *floats = (float *)room(n.floats, sizeof *floats);
+    uint16_t *contexts = (uint16_t *)room(n.contexts, sizeof *contexts);
+    float *history = (float *)room(n.history, sizeof *history);
+    check(jeqlluna_open(
+        parameters, sizeof parameters, words, n.words, longs, n.longs, floats, n.floats, contexts, n.contexts, history, n.history));
+
+    float frames[2 * SAMPLES];
+    JeqllunaRender r = jeqlluna_render(
+        words, n.words, longs, n.longs, floats, n.floats, contexts, n.contexts, history, n.history, 0x10000, NULL, 0, frames, 2 * SAMPLES);
+    check(r.number);
+    print_frames(frames);
+
+    JeqllunaLength l = jeqlluna_reply_length(parameters, sizeof parameters, 272);
+    check(l.number);
+    reply = (uint8_t *)room(l.size, 1);
+    JeqllunaUpdate u = jeqlluna_update(
+        words, n.words, longs, n.longs, floats, n.floats, contexts, n.contexts, history, n.history, 272, NULL, 0, reply, l.size);
+    check(u.number);
+    print_reply(reply, u.size);
+
+    free(words), free(longs), free(floats), free(contexts), free(history), free(reply);
     return 0;
 }

@@ -1,13 +1,20 @@
 /* Jeqlluna: an audio renderer, proved. The library is built for x86-64 Linux by `rt staticlib cabi` (target/staticlib/libcabi.a).
  *
- * A slice is a pointer and a count of elements. The caller owns all memory; a call keeps no pointer after it returns and allocates nothing.
- * The caller sees to it that a pointer is aligned, that so many elements lie there, that it is not NULL (also where the count is 0), and that
- * a slice which is written overlaps no other slice of the call, and nobody else uses it meanwhile. Any contents and any numbers are allowed.
+ * A slice is a pointer and a count of elements. The caller owns all memory; a call keeps no pointer after it returns and allocates
+ * nothing. The caller sees to it that a pointer is aligned, that so many elements lie there, and that a slice which is written overlaps
+ * no other slice of the call, and nobody else uses it meanwhile. Where the count is 0 the pointer may be NULL. Any contents and any
+ * numbers are allowed.
  *
- * A renderer is five slices: words, longs, floats, contexts and history. jeqlluna_lengths says how long each is, jeqlluna_open fills them,
- * updates and renders go on from what the call before left there. Copying all five copies the renderer. Each may be used by one thread at a time.
+ * A renderer is five slices: words, longs, floats, contexts and history. jeqlluna_lengths says how long each is, jeqlluna_open fills
+ * them, updates and renders go on from what the call before left there. Copying all five copies the renderer. Each may be used by one
+ * thread at a time.
  *
- * Each call answers a number: 0, or the first question that it answered "no". Then its other results are 0 and no slice has changed. */
+ * Each call answers a number: 0, or the first question that it answered "no". Then its other results are 0 and no slice has changed.
+ *
+ * The proofs assume the floating-point mode that a program starts in: MXCSR rounds to nearest, flushes nothing (FTZ and DAZ off) and
+ * masks all exceptions. In another mode nothing is proved. What bindings/c/mode.c sees: where rounding is another, nearly all frames and
+ * about half of the states differ, and now and then a reply or a render's rounds; with FTZ or DAZ the frames that come of subnormal
+ * numbers; answers' numbers do not. An exception that is not masked ends a call midway by SIGFPE; what its slices then hold is open. */
 #ifndef JEQLLUNA_H
 #define JEQLLUNA_H
 
@@ -17,6 +24,14 @@
 #ifdef __cplusplus
 extern "C" {
 #endif
+
+#define JEQLLUNA_VERSION "0.2.0"
+#define JEQLLUNA_VERSION_MAJOR 0
+#define JEQLLUNA_VERSION_MINOR 2
+#define JEQLLUNA_VERSION_PATCH 0
+
+/* The bytes of stack that a call takes at most; measured, and held to by bindings/stack. */
+#define JEQLLUNA_STACK 139264
 
 enum {
     JEQLLUNA_OK = 0,
@@ -31,9 +46,38 @@ enum {
     JEQLLUNA_OUTPUT = 9   /* ADPCM: the output is shorter than count */
 };
 
-/* Bytes of the parameters: 32-bit little-endian numbers. At 0x00 the sample rate, 0x04 samples per render (1..256), 0x08 mix buffers (0..96),
- * 0x0c sub-mixes (0..31), 0x10 voices (0..64), 0x14 sinks (0..8), 0x18 effects (0..64), 0x24 splitters (0..32), 0x28 splitter destinations
- * (0..128), 0x30 the revision word. Of a shorter slice a field that is not whole is 0; of a longer one the rest is not read. */
+/* What a number says, in words. Never NULL. */
+static inline const char *jeqlluna_refusal(uint32_t number) {
+    switch (number) {
+    case JEQLLUNA_OK:
+        return "no refusal";
+    case JEQLLUNA_SAMPLES:
+        return "samples per render are not 1 to 256";
+    case JEQLLUNA_COUNTS:
+        return "another count of the parameters is too large";
+    case JEQLLUNA_LENGTHS:
+        return "the five slices are not as long as the parameters ask";
+    case JEQLLUNA_STATE:
+        return "the five slices hold no renderer";
+    case JEQLLUNA_MEMORY:
+        return "sample memory ends above 2^63";
+    case JEQLLUNA_REPLY:
+        return "the reply slice is too short";
+    case JEQLLUNA_FRAMES:
+        return "the frame slice is shorter than 2 * samples";
+    case JEQLLUNA_START:
+        return "the start of an ADPCM decode is above 2^60";
+    case JEQLLUNA_OUTPUT:
+        return "the output of an ADPCM decode is shorter than the count";
+    default:
+        return "an unknown number";
+    }
+}
+
+/* Bytes of the parameters: 32-bit little-endian numbers. At 0x00 the sample rate, 0x04 samples per render (1..256), 0x08 mix buffers
+ * (0..96), 0x0c sub-mixes (0..31), 0x10 voices (0..64), 0x14 sinks (0..8), 0x18 effects (0..64), 0x24 splitters (0..32), 0x28 splitter
+ * destinations (0..128), 0x30 the revision word. Of a shorter slice a field that is not whole is 0; of a longer one the rest is
+ * not read. */
 #define JEQLLUNA_PARAMETERS 0x34
 
 typedef struct {
@@ -44,12 +88,22 @@ typedef struct {
 typedef struct {
     uint32_t number;
     size_t size; /* bytes of the reply */
+} JeqllunaLength;
+
+typedef struct {
+    uint32_t number;
+    size_t size; /* bytes of the reply */
 } JeqllunaUpdate;
 
 typedef struct {
     uint32_t number;
     uint32_t rounds; /* rounds that the fetches of all voices took */
 } JeqllunaRender;
+
+typedef struct {
+    uint32_t number, count; /* how many sub-mixes run */
+    uint32_t mixes[31];     /* their numbers, the first to run first; 0 beyond count */
+} JeqllunaOrder;
 
 /* What an ADPCM decode starts from and leaves: the last header, the last sample and the one before it. */
 typedef struct {
@@ -65,6 +119,9 @@ typedef struct {
 
 /* How long the five slices of a renderer must be. Refusals: 1, 2. */
 JeqllunaLengths jeqlluna_lengths(const uint8_t *parameters, size_t parameters_len);
+
+/* How long the reply of a renderer with these parameters is to an update that expects so many bytes. Refusals: 1, 2. */
+JeqllunaLength jeqlluna_reply_length(const uint8_t *parameters, size_t parameters_len, uint32_t expected);
 
 /* Makes a renderer, whatever its slices held. Refusals: 1, 2, 3. */
 uint32_t jeqlluna_open(
@@ -85,6 +142,11 @@ JeqllunaRender jeqlluna_render(
     uint32_t *words, size_t words_len, uint64_t *longs, size_t longs_len, float *floats, size_t floats_len,
     uint16_t *contexts, size_t contexts_len, float *history, size_t history_len,
     uint64_t base, const uint8_t *memory, size_t memory_len, float *frames, size_t frames_len);
+
+/* The sub-mixes that a render runs, in their sequence. Refusal: 4. */
+JeqllunaOrder jeqlluna_mix_order(
+    const uint32_t *words, size_t words_len, const uint64_t *longs, size_t longs_len, const float *floats, size_t floats_len,
+    const uint16_t *contexts, size_t contexts_len, const float *history, size_t history_len);
 
 /* Decodes count ADPCM samples from sample start on to the front of output, as whole numbers in the 16-bit range; no renderer is needed. The
  * data's first byte is the one that holds the start's nibble. There are eight pairs of coefficients: of a longer slice the first 16 numbers

@@ -1,46 +1,87 @@
-/// Why a call was refused, with document 01's numbers. Nothing that the call was lent has changed.
+//! Why a call was refused.
+use core::fmt;
+
+/// Why a call was refused. Nothing that the call was lent has changed.
 #[derive(Clone, Copy, Debug, PartialEq, Eq, Hash)]
-#[repr(u32)]
+#[non_exhaustive]
 pub enum Refusal {
-    /// Samples per render are not 1..256.
-    Samples = 1,
-    /// Another count of the parameters is too large.
-    Counts = 2,
-    /// The slices of the state are not as long as the parameters ask.
-    Lengths = 3,
-    /// The slices of the state hold no renderer.
-    State = 4,
-    /// Sample memory ends above 2^63.
-    Memory = 5,
-    /// The reply slice is too short.
-    Reply = 6,
-    /// The frame slice is shorter than 2 × samples.
-    Frames = 7,
-    /// The start of an ADPCM decode is above 2^60.
-    Start = 8,
-    /// The output of an ADPCM decode is shorter than the count.
-    Output = 9,
+    /// 1: samples per render are not 1 to 256.
+    Samples,
+    /// 2: another count of the parameters is too large.
+    Counts,
+    /// 3: the five slices of the state are not as long as the parameters ask.
+    Lengths,
+    /// 4: the five slices of the state hold no renderer.
+    State,
+    /// 5: sample memory ends above 2^63.
+    Memory,
+    /// 6: the reply slice is too short, or the reply longer than the limit that was given.
+    Reply,
+    /// 7: the frame slice is shorter than 2 × samples.
+    Frames,
+    /// 8: the start of an ADPCM decode is above 2^60.
+    Start,
+    /// 9: the output of an ADPCM decode is shorter than the count.
+    Output,
+    /// A number that this version of the crate does not know, from a library of another version.
+    Other(u32),
 }
 
 impl Refusal {
+    /// The number by which the library's functions answer it.
     pub fn number(self) -> u32 {
-        self as u32
+        match self {
+            Refusal::Samples => 1,
+            Refusal::Counts => 2,
+            Refusal::Lengths => 3,
+            Refusal::State => 4,
+            Refusal::Memory => 5,
+            Refusal::Reply => 6,
+            Refusal::Frames => 7,
+            Refusal::Start => 8,
+            Refusal::Output => 9,
+            Refusal::Other(number) => number,
+        }
     }
 
-    /// The refusal with a number; 0 is success.
+    /// What an answer's number says: 0 is success.
     pub(crate) fn check(number: u32) -> Result<(), Refusal> {
-        use Refusal::*;
-        match number {
-            0 => Ok(()),
-            n => Err([Samples, Counts, Lengths, State, Memory, Reply, Frames, Start, Output][n as usize - 1]),
+        Err(match number {
+            0 => return Ok(()),
+            1 => Refusal::Samples,
+            2 => Refusal::Counts,
+            3 => Refusal::Lengths,
+            4 => Refusal::State,
+            5 => Refusal::Memory,
+            6 => Refusal::Reply,
+            7 => Refusal::Frames,
+            8 => Refusal::Start,
+            9 => Refusal::Output,
+            number => Refusal::Other(number),
+        })
+    }
+
+    /// The words of include/jeqlluna.h.
+    fn words(self) -> &'static str {
+        match self {
+            Refusal::Samples => "samples per render are not 1 to 256",
+            Refusal::Counts => "another count of the parameters is too large",
+            Refusal::Lengths => "the five slices are not as long as the parameters ask",
+            Refusal::State => "the five slices hold no renderer",
+            Refusal::Memory => "sample memory ends above 2^63",
+            Refusal::Reply => "the reply slice is too short",
+            Refusal::Frames => "the frame slice is shorter than 2 * samples",
+            Refusal::Start => "the start of an ADPCM decode is above 2^60",
+            Refusal::Output => "the output of an ADPCM decode is shorter than the count",
+            Refusal::Other(_) => "an unknown number",
         }
     }
 }
 
-impl std::fmt::Display for Refusal {
-    fn fmt(&self, f: &mut std::fmt::Formatter<'_>) -> std::fmt::Result {
-        write!(f, "refused {}", self.number())
+impl fmt::Display for Refusal {
+    fn fmt(&self, f: &mut fmt::Formatter<'_>) -> fmt::Result {
+        write!(f, "{} (refusal {})", self.words(), self.number())
     }
 }
 
-impl std::error::Error for Refusal {}
+impl core::error::Error for Refusal {}

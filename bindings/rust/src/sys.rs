@@ -1,53 +1,105 @@
 //! The library's functions as C sees them (include/jeqlluna.h): a slice is a pointer and a count.
 //!
-//! Safety, for each: every pointer is aligned and not null, so many elements lie there, and a slice that is written overlaps no other.
+//! # Safety
+//!
+//! For each function: every pointer is aligned, so many elements lie there, and a slice that is written overlaps no other slice of the
+//! call and is used by nobody else meanwhile. Where a count is 0 the pointer may be null. The floating-point mode is the one that Rust
+//! assumes.
+//!
+//! Each answer has a number: 0, or that of a refusal. Then the other results are 0 and no slice has changed.
 
-/// Document 01's number, and how many elements each slice of a renderer has.
+/// How many elements each slice of a renderer has.
 #[repr(C)]
 #[derive(Clone, Copy, Debug, PartialEq, Eq)]
 pub struct Lengths {
+    /// 0, or the refusal's number.
     pub number: u32,
+    /// Elements of the slice `words`.
     pub words: usize,
+    /// Elements of the slice `longs`.
     pub longs: usize,
+    /// Elements of the slice `floats`.
     pub floats: usize,
+    /// Elements of the slice `contexts`.
     pub contexts: usize,
+    /// Elements of the slice `history`.
     pub history: usize,
 }
 
+/// How long a reply is.
 #[repr(C)]
 #[derive(Clone, Copy, Debug, PartialEq, Eq)]
-pub struct Update {
+pub struct Length {
+    /// 0, or the refusal's number.
     pub number: u32,
+    /// Bytes of the reply.
     pub size: usize,
 }
 
+/// What an update answers.
+#[repr(C)]
+#[derive(Clone, Copy, Debug, PartialEq, Eq)]
+pub struct Update {
+    /// 0, or the refusal's number.
+    pub number: u32,
+    /// Bytes of the reply.
+    pub size: usize,
+}
+
+/// What a render answers.
 #[repr(C)]
 #[derive(Clone, Copy, Debug, PartialEq, Eq)]
 pub struct Render {
+    /// 0, or the refusal's number.
     pub number: u32,
+    /// The rounds that the fetches of all voices took.
     pub rounds: u32,
+}
+
+/// The sub-mixes that run.
+#[repr(C)]
+#[derive(Clone, Copy, Debug, PartialEq, Eq)]
+pub struct Order {
+    /// 0, or the refusal's number.
+    pub number: u32,
+    /// How many run.
+    pub count: u32,
+    /// Their numbers, the first to run first; 0 beyond the count.
+    pub mixes: [u32; 31],
 }
 
 /// What an ADPCM decode starts from and leaves: the last header, the last sample and the one before it.
 #[repr(C)]
 #[derive(Clone, Copy, Debug, Default, PartialEq, Eq)]
 pub struct AdpcmContext {
+    /// The last frame's header: predictor and scale.
     pub pred_scale: u16,
+    /// The last sample.
     pub history0: i16,
+    /// The sample before it.
     pub history1: i16,
 }
 
+/// What an ADPCM decode answers.
 #[repr(C)]
 #[derive(Clone, Copy, Debug, PartialEq, Eq)]
 pub struct Decoded {
+    /// 0, or the refusal's number.
     pub number: u32,
+    /// Samples decoded, fewer than asked for where the data ran out.
     pub done: usize,
+    /// The context for the next decode.
     pub context: AdpcmContext,
 }
 
 unsafe extern "C" {
+    /// How long the five slices of a renderer must be. Refusals: 1, 2.
     pub fn jeqlluna_lengths(parameters: *const u8, parameters_len: usize) -> Lengths;
 
+    /// How long the reply of a renderer with these parameters is to an update that expects so many bytes. Refusals: 1, 2.
+    pub fn jeqlluna_reply_length(parameters: *const u8, parameters_len: usize, expected: u32) -> Length;
+
+    /// Makes a renderer, whatever its slices held. Refusals: 1, 2, 3.
     pub fn jeqlluna_open(
         parameters: *const u8,
         parameters_len: usize,
@@ -63,6 +115,7 @@ unsafe extern "C" {
         history_len: usize,
     ) -> u32;
 
+    /// A title's update; the reply goes to the front of its slice. Refusals: 4, 6.
     pub fn jeqlluna_update(
         words: *mut u32,
         words_len: usize,
@@ -81,6 +134,7 @@ unsafe extern "C" {
         reply_len: usize,
     ) -> Update;
 
+    /// One render; the frames go to the front of their slice. Refusals: 4, 5, 7.
     pub fn jeqlluna_render(
         words: *mut u32,
         words_len: usize,
@@ -99,6 +153,21 @@ unsafe extern "C" {
         frames_len: usize,
     ) -> Render;
 
+    /// The sub-mixes that a render runs, in their sequence. Refusal: 4.
+    pub fn jeqlluna_mix_order(
+        words: *const u32,
+        words_len: usize,
+        longs: *const u64,
+        longs_len: usize,
+        floats: *const f32,
+        floats_len: usize,
+        contexts: *const u16,
+        contexts_len: usize,
+        history: *const f32,
+        history_len: usize,
+    ) -> Order;
+
+    /// Decodes ADPCM samples to the front of the output; no renderer is needed. Refusals: 8, 9.
     pub fn jeqlluna_decode_adpcm(
         data: *const u8,
         data_len: usize,

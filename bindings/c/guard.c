@@ -1,0 +1,224 @@
+/* Guard pages around every slice: guard [SESSIONS [MXCSR]]. Each slice of each call stands between two pages that can't be touched, at the
+ * beginning of what lies between or at its end, exactly as long as it must be; slices that are only read can't be written meanwhile.
+ * Every answer, reply, frame and state is that of the same calls on plain memory. MXCSR, in hexadecimal, is another floating-point mode
+ * for all of it. */
+#ifndef _GNU_SOURCE
+#define _GNU_SOURCE 1
+#endif
+#include <stdio.h>
+#include <stdlib.h>
+#include <string.h>
+#include <sys/mman.h>
+#include <xmmintrin.h>
+
+#include "title.h"
+
+#define PAGE 4096
+#define REPLY 20000 /* the longest reply for which there is room */
+
+/* Pages between two that can't be touched. */
+typedef struct {
+    uint8_t *start;
+    size_t bytes;
+} Region;
+
+static long calls = 0;
+
+static Region region(size_t most) {
+    Region r;
+    r.bytes = (most + PAGE - 1) / PAGE * PAGE;
+    r.start = (uint8_t *)mmap(NULL, r.bytes + 2 * PAGE, PROT_NONE, MAP_PRIVATE | MAP_ANONYMOUS, -1, 0);
+    if (r.start == MAP_FAILED) {
+        fail("mmap");
+    }
+    r.start += PAGE;
+    if (r.bytes > 0 && mprotect(r.start, r.bytes, PROT_READ | PROT_WRITE) != 0) {
+        fail("mprotect");
+    }
+    return r;
+}
+
+static void release(Region r) {
+    munmap(r.start - PAGE, r.bytes + 2 * PAGE);
+}
+
+/* Where so many bytes stand in a region. */
+static uint8_t *place(Region r, size_t bytes, int at_end) {
+    return at_end ? r.start + r.bytes - bytes : r.start;
+}
+
+static void allow(Region r, int writing) {
+    if (r.bytes > 0 && mprotect(r.start, r.bytes, writing ? PROT_READ | PROT_WRITE : PROT_READ) != 0) {
+        fail("mprotect");
+    }
+}
+
+/* Bytes that a call may only read. */
+static const uint8_t *lend(Region r, const uint8_t *bytes, size_t n, int at_end) {
+    uint8_t *p = place(r, n, at_end);
+    allow(r, 1);
+    if (n > 0) {
+        memcpy(p, bytes, n);
+    }
+    allow(r, 0);
+    return p;
+}
+
+static void hold(const char *what, int same) {
+    calls++;
+    if (!same) {
+        fail("%s differs between guard pages", what);
+    }
+}
+
+static void order(const Desk *g, const Desk *plain, const Region held[5]) {
+    JeqllunaOrder a, b;
+    int k;
+    for (k = 0; k < 5; k++) {
+        allow(held[k], 0);
+    }
+    a = jeqlluna_mix_order(
+        g->words, g->n.words, g->longs, g->n.longs, g->floats, g->n.floats, g->contexts, g->n.contexts, g->history, g->n.history);
+    b = jeqlluna_mix_order(
+        plain->words, plain->n.words, plain->longs, plain->n.longs, plain->floats, plain->n.floats, plain->contexts, plain->n.contexts,
+        plain->history, plain->n.history);
+    for (k = 0; k < 5; k++) {
+        allow(held[k], 1);
+    }
+    hold("mix order", memcmp(&a, &b, sizeof a) == 0);
+}
+
+static void update(Desk *g, Desk *plain, const Counts *c, const uint8_t *title, size_t size, int at_end, uint64_t *seed) {
+    static uint8_t expected_reply[REPLY];
+    static const uint32_t sizes[] = {0, 1, 6672, 9000, 15000, 0x7fffffff, 0xffffffff};
+    uint8_t p[JEQLLUNA_PARAMETERS], *reply;
+    Region in = region(size), out = region(REPLY);
+    uint32_t expected = sizes[below(seed, sizeof sizes / sizeof *sizes)];
+    JeqllunaLength l;
+    JeqllunaUpdate a, b;
+    size_t n;
+    put_parameters(p, c);
+    l = jeqlluna_reply_length(p, sizeof p, expected);
+    n = l.size > REPLY ? below(seed, 100) : below(seed, 16) == 0 ? l.size - 1 : l.size;
+    reply = place(out, n, at_end);
+    memset(reply, 0x5a, n);
+    memset(expected_reply, 0x5a, sizeof expected_reply);
+    a = desk_update(g, expected, lend(in, title, size, at_end), size, reply, n);
+    b = desk_update(plain, expected, title, size, expected_reply, n);
+    hold("update", a.number == b.number && a.size == b.size && a.number == (n < l.size ? (uint32_t)JEQLLUNA_REPLY : 0u));
+    hold("reply", memcmp(reply, expected_reply, n) == 0 && same_desks(g, plain));
+    release(in);
+    release(out);
+}
+
+static void render(Desk *g, Desk *plain, const Counts *c, Region memory, const uint8_t *bytes, int at_end, uint64_t *seed) {
+    float expected[512], *frames;
+    size_t n = 2 * c->samples - (below(seed, 16) == 0), size = below(seed, 8) == 0 ? below(seed, MEMORY + 1) : MEMORY;
+    Region out = region(sizeof expected);
+    JeqllunaRender a, b;
+    frames = (float *)(void *)place(out, n * sizeof *frames, at_end);
+    memset(frames, 0x5a, n * sizeof *frames);
+    memset(expected, 0x5a, sizeof expected);
+    a = desk_render(g, lend(memory, bytes, size, at_end), size, frames, n);
+    b = desk_render(plain, bytes, size, expected, n);
+    hold("render", a.number == b.number && a.rounds == b.rounds && a.number == (n < 2 * c->samples ? (uint32_t)JEQLLUNA_FRAMES : 0u));
+    hold("frames", memcmp(frames, expected, n * sizeof *frames) == 0 && same_desks(g, plain));
+    release(out);
+}
+
+static void decode(int at_end, uint64_t *seed) {
+    uint8_t data[40];
+    int16_t pairs[20];
+    float expected[40], *output;
+    size_t n = below(seed, 41), m = below(seed, 21), count = below(seed, 41), start = below(seed, 60);
+    JeqllunaContext context;
+    JeqllunaDecoded a, b;
+    Region in = region(sizeof data), with = region(sizeof pairs), out = region(sizeof expected);
+    put_random(seed, data, sizeof data);
+    put_random(seed, (uint8_t *)pairs, sizeof pairs);
+    put_random(seed, (uint8_t *)&context, sizeof context);
+    output = (float *)(void *)place(out, count * sizeof *output, at_end);
+    memset(output, 0x5a, count * sizeof *output);
+    memset(expected, 0x5a, sizeof expected);
+    a = jeqlluna_decode_adpcm(
+        lend(in, data, n, at_end), n, start, count,
+        (const int16_t *)(const void *)lend(with, (const uint8_t *)pairs, m * sizeof *pairs, at_end), m, context, output, count);
+    b = jeqlluna_decode_adpcm(data, n, start, count, pairs, m, context, expected, count);
+    hold("decode", a.number == 0 && b.number == 0 && a.done == b.done && memcmp(&a.context, &b.context, sizeof context) == 0);
+    hold("samples", memcmp(output, expected, count * sizeof *output) == 0);
+    release(in);
+    release(with);
+    release(out);
+}
+
+static void session(const Counts *c, int at_end, uint64_t seed) {
+    static const int formats[] = {2, 5, 6, 3};
+    uint8_t p[JEQLLUNA_PARAMETERS], bytes[MEMORY], *title = (uint8_t *)room(title_size(c));
+    Region parameters = region(sizeof p), memory = region(MEMORY), held[5];
+    Desk plain = open_desk(c), g = plain;
+    Sound sound;
+    int k;
+    sound.format = formats[below(&seed, 4)];
+    sound.pitch = (float)below(&seed, 1700) / 100.0f;
+    sound.volume = (float)below(&seed, 200) / 100.0f;
+    put_parameters(p, c);
+    put_memory(&seed, bytes);
+    held[0] = region(g.n.words * sizeof *g.words);
+    held[1] = region(g.n.longs * sizeof *g.longs);
+    held[2] = region(g.n.floats * sizeof *g.floats);
+    held[3] = region(g.n.contexts * sizeof *g.contexts);
+    held[4] = region(g.n.history * sizeof *g.history);
+    g.words = (uint32_t *)(void *)place(held[0], g.n.words * sizeof *g.words, at_end);
+    g.longs = (uint64_t *)(void *)place(held[1], g.n.longs * sizeof *g.longs, at_end);
+    g.floats = (float *)(void *)place(held[2], g.n.floats * sizeof *g.floats, at_end);
+    g.contexts = (uint16_t *)(void *)place(held[3], g.n.contexts * sizeof *g.contexts, at_end);
+    g.history = (float *)(void *)place(held[4], g.n.history * sizeof *g.history, at_end);
+    hold("lengths", jeqlluna_lengths(lend(parameters, p, sizeof p, at_end), sizeof p).words == plain.n.words);
+    hold("reply length", jeqlluna_reply_length(place(parameters, sizeof p, at_end), sizeof p, 9000).number == 0);
+    hold("open", desk_open(&g, place(parameters, sizeof p, at_end), sizeof p) == 0 && same_desks(&g, &plain));
+    for (k = 0; k < 12; k++) {
+        size_t size = title_size(c);
+        if (k % 4 == 0) {
+            put_title(title, c, &sound, k == 0 || below(&seed, 4) == 0, &seed);
+            if (k > 0 && below(&seed, 2) == 0) {
+                size = damage(title, size, &seed);
+            }
+            update(&g, &plain, c, title, size, at_end, &seed);
+            order(&g, &plain, held);
+        }
+        render(&g, &plain, c, memory, bytes, at_end, &seed);
+        decode(at_end, &seed);
+    }
+    for (k = 0; k < 5; k++) {
+        release(held[k]);
+    }
+    release(parameters);
+    release(memory);
+    close_desk(&plain);
+    free(title);
+}
+
+int main(int argc, char **argv) {
+    long sessions = argc > 1 ? atol(argv[1]) : 400, k;
+    uint64_t seed = 11;
+    if (argc > 2) {
+        _mm_setcsr((unsigned)strtoul(argv[2], NULL, 16));
+    }
+    for (k = 0; k < sessions; k++) {
+        Counts c;
+        c.rate = below(&seed, 3) == 0 ? below(&seed, 200000) : 48000;
+        c.samples = 1 + below(&seed, 256);
+        c.mix_buffers = below(&seed, 97);
+        c.sub_mixes = below(&seed, 2) == 0 ? 0 : below(&seed, 32);
+        c.voices = below(&seed, below(&seed, 2) == 0 ? 5 : 65);
+        c.sinks = below(&seed, 9);
+        c.effects = below(&seed, 65);
+        c.splitters = below(&seed, 33);
+        c.destinations = below(&seed, 129);
+        c.revision = (int)below(&seed, 10);
+        session(k == 0 ? &SMALL : k == 1 ? &MIDDLE : k == 2 ? &LARGEST : &c, 0, seed);
+        session(k == 0 ? &SMALL : k == 1 ? &MIDDLE : k == 2 ? &LARGEST : &c, 1, seed);
+    }
+    printf("%ld comparisons between guard pages\n", calls);
+    return 0;
+}

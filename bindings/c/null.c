@@ -1,0 +1,145 @@
+/* NULL for each slice of each call where its count is 0, by itself and with all others: the answer and what is left are those of a
+ * pointer to something. Slices of a renderer may be empty too (no voice: no contexts, no history); where one must not be, NULL is refused
+ * like any other. */
+#include <stdio.h>
+#include <stdlib.h>
+#include <string.h>
+
+#include "title.h"
+
+static int calls = 0;
+
+/* Two numbers that must be the same, one from a call with NULL. */
+static void hold(const char *what, unsigned long with, unsigned long without) {
+    calls++;
+    if (with != without) {
+        fail("%s: %lu with NULL, %lu without", what, with, without);
+    }
+}
+
+/* Parameters. */
+static void parameters(void) {
+    const uint8_t some[1] = {0};
+    JeqllunaLengths a = jeqlluna_lengths(NULL, 0), b = jeqlluna_lengths(some, 0);
+    JeqllunaLength c = jeqlluna_reply_length(NULL, 0, 1), d = jeqlluna_reply_length(some, 0, 1);
+    hold("lengths", a.number, b.number);
+    hold("lengths", a.words + a.longs + a.floats + a.contexts + a.history, 0);
+    hold("reply length", c.number, d.number);
+    hold("reply length", c.size, 0);
+    hold("open", jeqlluna_open(NULL, 0, NULL, 0, NULL, 0, NULL, 0, NULL, 0, NULL, 0), JEQLLUNA_SAMPLES);
+}
+
+/* A renderer with one of its slices empty (k is 0 to 4), or all (5): refused, by 3 and 4. */
+static void short_slices(const Counts *counts) {
+    uint8_t p[JEQLLUNA_PARAMETERS], reply[1];
+    float frames[1];
+    Desk whole = open_desk(counts), before = open_desk(counts);
+    int k;
+    put_parameters(p, counts);
+    for (k = 0; k < 6; k++) {
+        Desk d = whole;
+        uint32_t expected = 4;
+        if (k == 0 || k == 5) {
+            d.words = NULL, d.n.words = 0;
+        }
+        if (k == 1 || k == 5) {
+            d.longs = NULL, d.n.longs = 0;
+        }
+        if (k == 2 || k == 5) {
+            d.floats = NULL, d.n.floats = 0;
+        }
+        if (k == 3 || k == 5) {
+            expected = d.n.contexts == 0 && k == 3 ? 0 : 4;
+            d.contexts = NULL, d.n.contexts = 0;
+        }
+        if (k == 4 || k == 5) {
+            expected = d.n.history == 0 && k == 4 ? 0 : 4;
+            d.history = NULL, d.n.history = 0;
+        }
+        if (expected == 4) {
+            hold("open", desk_open(&d, p, sizeof p), JEQLLUNA_LENGTHS);
+            hold("update", desk_update(&d, 0, NULL, 0, reply, 0).number, JEQLLUNA_STATE);
+            hold("render", desk_render(&d, NULL, 0, frames, 0).number, JEQLLUNA_STATE);
+        } else {
+            hold("open", desk_open(&d, p, sizeof p), JEQLLUNA_OK);
+        }
+        hold("mix order",
+             jeqlluna_mix_order(
+                 d.words, d.n.words, d.longs, d.n.longs, d.floats, d.n.floats, d.contexts, d.n.contexts, d.history, d.n.history)
+                 .number,
+             expected);
+        hold("state", same_desks(&whole, &before), 1);
+    }
+    close_desk(&whole);
+    close_desk(&before);
+}
+
+/* No input, no sample memory, no reply and no frames, each alone and together, for voices that play. */
+static void calls_of(const Counts *counts) {
+    static uint8_t reply[20000], other[20000];
+    static float frames[512], others[512];
+    const uint8_t some[1] = {0};
+    size_t size = title_size(counts);
+    uint8_t *title = (uint8_t *)room(size);
+    const Sound sound = {2, 1.0f, 0.5f};
+    Desk a = open_desk(counts), b = open_desk(counts);
+    uint64_t seed = 7;
+    put_title(title, counts, &sound, 1, &seed);
+    hold("update", desk_update(&a, 0, title, size, reply, sizeof reply).number, 0);
+    hold("update", desk_update(&b, 0, title, size, other, sizeof other).number, 0);
+    hold("update without input", desk_update(&a, 9000, NULL, 0, reply, sizeof reply).size,
+         desk_update(&b, 9000, some, 0, other, sizeof other).size);
+    hold("reply", memcmp(reply, other, sizeof reply) == 0, 1);
+    hold("state", same_desks(&a, &b), 1);
+    hold("update", desk_update(&a, 0, title, size, reply, sizeof reply).number, 0);
+    hold("update", desk_update(&b, 0, title, size, other, sizeof other).number, 0);
+    hold("render without memory", desk_render(&a, NULL, 0, frames, 512).rounds, desk_render(&b, some, 0, others, 512).rounds);
+    hold("frames", memcmp(frames, others, sizeof frames) == 0, 1);
+    hold("state", same_desks(&a, &b), 1);
+    hold("update without reply", desk_update(&a, 0, title, size, NULL, 0).number, JEQLLUNA_REPLY);
+    hold("update without both", desk_update(&a, 0, NULL, 0, NULL, 0).number, JEQLLUNA_REPLY);
+    hold("render without frames", desk_render(&a, title, 1, NULL, 0).number, JEQLLUNA_FRAMES);
+    hold("render without both", desk_render(&a, NULL, 0, NULL, 0).number, JEQLLUNA_FRAMES);
+    hold("state", same_desks(&a, &b), 1);
+    close_desk(&a);
+    close_desk(&b);
+    free(title);
+}
+
+/* ADPCM: no data, no coefficients, no output. */
+static void adpcm(void) {
+    const uint8_t data[8] = {0x01, 0x23, 0x45, 0x67, 0x01, 0x23, 0x45, 0x67};
+    const int16_t pairs[16] = {0};
+    const JeqllunaContext context = {0x12, -3, 4};
+    float output[14] = {0}, other[14] = {0};
+    JeqllunaDecoded d = jeqlluna_decode_adpcm(NULL, 0, 0, 14, pairs, 16, context, output, 14);
+    hold("decode without data", d.number, 0);
+    hold("decode without data", d.done, 0);
+    d = jeqlluna_decode_adpcm(data, 8, 0, 14, NULL, 0, context, output, 14);
+    hold("decode without coefficients", d.done, 14);
+    hold("decode without coefficients", d.number, 0);
+    hold("decode with zeros", jeqlluna_decode_adpcm(data, 8, 0, 14, pairs, 16, context, other, 14).done, 14);
+    hold("samples", memcmp(output, other, sizeof output) == 0, 1);
+    d = jeqlluna_decode_adpcm(data, 8, 0, 0, pairs, 16, context, NULL, 0);
+    hold("decode without output", d.number, 0);
+    hold("decode without output", d.context.pred_scale, 0x12);
+    d = jeqlluna_decode_adpcm(data, 8, 0, 1, pairs, 16, context, NULL, 0);
+    hold("decode without room", d.number, JEQLLUNA_OUTPUT);
+    d = jeqlluna_decode_adpcm(NULL, 0, 0, 0, NULL, 0, context, NULL, 0);
+    hold("decode of nothing", d.number, 0);
+    hold("decode of nothing", d.context.history0 == -3, 1);
+}
+
+int main(void) {
+    static const Counts nothing = {48000, 2, 0, 0, 0, 0, 0, 0, 0, 5};
+    parameters();
+    short_slices(&nothing);
+    short_slices(&SMALL);
+    short_slices(&LARGEST);
+    calls_of(&nothing);
+    calls_of(&SMALL);
+    calls_of(&MIDDLE);
+    adpcm();
+    printf("%d answers with NULL\n", calls);
+    return 0;
+}

@@ -1,0 +1,133 @@
+/* Each number from each call that can answer it, in the order of the questions; then the other results are 0 and nothing has changed. */
+#include <stdio.h>
+#include <stdlib.h>
+#include <string.h>
+
+#include "title.h"
+
+static int answers = 0;
+
+static void expect(const char *call, uint32_t number, uint32_t expected, int changed) {
+    answers++;
+    if (number != expected || changed) {
+        fail("%s: answered %u where %u was due%s", call, (unsigned)number, (unsigned)expected, changed ? ", and something changed" : "");
+    }
+}
+
+/* Whether n bytes all hold the mark. */
+static int marked(const void *data, size_t n) {
+    const uint8_t *d = (const uint8_t *)data;
+    size_t k;
+    for (k = 0; k < n; k++) {
+        if (d[k] != 0x5a) {
+            return 0;
+        }
+    }
+    return 1;
+}
+
+static void counts_refused(void) {
+    static const uint32_t at[7] = {0x08, 0x0c, 0x10, 0x14, 0x18, 0x24, 0x28}, most[7] = {96, 31, 64, 8, 64, 32, 128};
+    uint8_t p[JEQLLUNA_PARAMETERS];
+    uint32_t k, samples;
+    JeqllunaLengths n;
+    JeqllunaLength l;
+    for (k = 0; k < 7; k++) {
+        for (samples = 0; samples <= 257; samples += 257) {
+            put_parameters(p, &SMALL);
+            put_u32(p + 0x04, samples);
+            put_u32(p + at[k], most[k] + 1);
+            expect("lengths", jeqlluna_lengths(p, sizeof p).number, JEQLLUNA_SAMPLES, 0);
+            expect("reply length", jeqlluna_reply_length(p, sizeof p, 0).number, JEQLLUNA_SAMPLES, 0);
+            expect("open", jeqlluna_open(p, sizeof p, NULL, 0, NULL, 0, NULL, 0, NULL, 0, NULL, 0), JEQLLUNA_SAMPLES, 0);
+        }
+        put_parameters(p, &SMALL);
+        put_u32(p + at[k], most[k] + 1);
+        n = jeqlluna_lengths(p, sizeof p);
+        expect("lengths", n.number, JEQLLUNA_COUNTS, n.words != 0 || n.longs != 0 || n.floats != 0 || n.contexts != 0 || n.history != 0);
+        l = jeqlluna_reply_length(p, sizeof p, 9999);
+        expect("reply length", l.number, JEQLLUNA_COUNTS, l.size != 0);
+        expect("open", jeqlluna_open(p, sizeof p, NULL, 0, NULL, 0, NULL, 0, NULL, 0, NULL, 0), JEQLLUNA_COUNTS, 0);
+        put_u32(p + at[k], most[k]);
+        expect("lengths", jeqlluna_lengths(p, sizeof p).number, JEQLLUNA_OK, 0);
+    }
+}
+
+/* One element too few in each slice by turns, and slices that hold no renderer. */
+static void state_refused(void) {
+    uint8_t p[JEQLLUNA_PARAMETERS], reply[400];
+    float frames[32];
+    int k;
+    put_parameters(p, &SMALL);
+    memset(reply, 0x5a, sizeof reply);
+    memset(frames, 0x5a, sizeof frames);
+    for (k = 0; k < 6; k++) {
+        Desk d = open_desk(&SMALL);
+        JeqllunaUpdate u;
+        JeqllunaRender r;
+        memset(d.words, 0x5a, d.n.words * sizeof *d.words);
+        memset(d.longs, 0x5a, d.n.longs * sizeof *d.longs);
+        memset(d.floats, 0x5a, d.n.floats * sizeof *d.floats);
+        memset(d.contexts, 0x5a, d.n.contexts * sizeof *d.contexts);
+        memset(d.history, 0x5a, d.n.history * sizeof *d.history);
+        d.n.words -= k == 0;
+        d.n.longs -= k == 1;
+        d.n.floats -= k == 2;
+        d.n.contexts -= k == 3;
+        d.n.history -= k == 4;
+        u = desk_update(&d, 400, NULL, 0, reply, sizeof reply);
+        expect("update", u.number, JEQLLUNA_STATE, u.size != 0 || !marked(reply, sizeof reply));
+        r = desk_render(&d, NULL, 0, frames, 32);
+        expect("render", r.number, JEQLLUNA_STATE, r.rounds != 0 || !marked(frames, sizeof frames));
+        expect("open", desk_open(&d, p, sizeof p), k == 5 ? JEQLLUNA_OK : JEQLLUNA_LENGTHS, 0);
+        if (k < 5) {
+            expect("state", 0, 0, !marked(d.words, d.n.words * 4) || !marked(d.longs, d.n.longs * 8) || !marked(d.floats, d.n.floats * 4));
+            expect("state", 0, 0, !marked(d.contexts, d.n.contexts * 2) || !marked(d.history, d.n.history * 4));
+        }
+        close_desk(&d);
+    }
+}
+
+/* Memory, reply and frames, in the order in which they are asked. */
+static void rooms_refused(void) {
+    uint8_t reply[1000], memory[16] = {0};
+    float frames[31];
+    Desk d = open_desk(&MIDDLE), before = open_desk(&MIDDLE);
+    JeqllunaUpdate u;
+    JeqllunaRender r;
+    memset(reply, 0x5a, sizeof reply);
+    memset(frames, 0x5a, sizeof frames);
+    u = desk_update(&d, 0xffffffff, NULL, 0, reply, sizeof reply);
+    expect("update", u.number, JEQLLUNA_REPLY, u.size != 0 || !marked(reply, sizeof reply) || !same_desks(&d, &before));
+    r = jeqlluna_render(
+        d.words, d.n.words, d.longs, d.n.longs, d.floats, d.n.floats, d.contexts, d.n.contexts, d.history, d.n.history,
+        ((uint64_t)1 << 63) - 15, memory, 16, frames, 31);
+    expect("render", r.number, JEQLLUNA_MEMORY, !marked(frames, sizeof frames) || !same_desks(&d, &before));
+    r = jeqlluna_render(
+        d.words, d.n.words, d.longs, d.n.longs, d.floats, d.n.floats, d.contexts, d.n.contexts, d.history, d.n.history,
+        ((uint64_t)1 << 63) - 16, memory, 16, frames, 31);
+    expect("render", r.number, JEQLLUNA_FRAMES, !marked(frames, sizeof frames) || !same_desks(&d, &before));
+    close_desk(&d);
+    close_desk(&before);
+}
+
+static void adpcm_refused(void) {
+    const JeqllunaContext context = {1, 2, 3};
+    const uint8_t data[8] = {0};
+    float output[2];
+    JeqllunaDecoded d;
+    memset(output, 0x5a, sizeof output);
+    d = jeqlluna_decode_adpcm(data, 8, ((uint64_t)1 << 60) + 1, 3, NULL, 0, context, output, 2);
+    expect("decode", d.number, JEQLLUNA_START, d.done != 0 || d.context.pred_scale != 0 || !marked(output, sizeof output));
+    d = jeqlluna_decode_adpcm(data, 8, (uint64_t)1 << 60, 3, NULL, 0, context, output, 2);
+    expect("decode", d.number, JEQLLUNA_OUTPUT, d.done != 0 || d.context.history0 != 0 || !marked(output, sizeof output));
+}
+
+int main(void) {
+    counts_refused();
+    state_refused();
+    rooms_refused();
+    adpcm_refused();
+    printf("%d answers by number\n", answers);
+    return 0;
+}

@@ -1,0 +1,92 @@
+/* Eight threads, each with its own renderer and all with the same sample memory, give the frames, replies and states that each gives alone:
+ * threads [RENDERS]. */
+#ifndef _GNU_SOURCE
+#define _GNU_SOURCE 1
+#endif
+#include <pthread.h>
+#include <stdio.h>
+#include <stdlib.h>
+
+#include "title.h"
+
+#define THREADS 8
+
+static uint8_t memory[MEMORY];
+static long renders = 400;
+static pthread_barrier_t start;
+
+typedef struct {
+    uint64_t seed, result;
+    int together;
+} Work;
+
+/* A session by its seed; the result sums up all that the calls gave. */
+static void *run(void *given) {
+    static const int formats[] = {2, 5, 6};
+    Work *w = (Work *)given;
+    uint64_t seed = w->seed, s = 1;
+    const Counts *c = w->seed % 2 == 0 ? &MIDDLE : &SMALL;
+    Sound sound = {formats[w->seed % 3], 0.5f + (float)(w->seed % 7) / 4.0f, 0.75f};
+    size_t size = title_size(c), n = 2 * c->samples;
+    uint8_t *title = (uint8_t *)room(size), *reply = (uint8_t *)room(20000);
+    float *frames = (float *)room(n * sizeof *frames);
+    Desk d = open_desk(c);
+    long k;
+    if (w->together) {
+        pthread_barrier_wait(&start);
+    }
+    for (k = 0; k < renders; k++) {
+        JeqllunaRender r;
+        if (k % 8 == 0) {
+            JeqllunaUpdate u;
+            put_title(title, c, &sound, k == 0, &seed);
+            u = desk_update(&d, 9000, title, size, reply, 20000);
+            if (u.number != 0) {
+                fail("update: %s", jeqlluna_refusal(u.number));
+            }
+            s = sum(s, reply, u.size);
+        }
+        r = desk_render(&d, memory, MEMORY, frames, n);
+        if (r.number != 0) {
+            fail("render: %s", jeqlluna_refusal(r.number));
+        }
+        s = sum(s, frames, n * sizeof *frames);
+        s = sum(s, &r.rounds, sizeof r.rounds);
+    }
+    w->result = s ^ desk_sum(&d);
+    close_desk(&d);
+    free(title), free(reply), free(frames);
+    return NULL;
+}
+
+int main(int argc, char **argv) {
+    Work alone[THREADS], together[THREADS];
+    pthread_t threads[THREADS];
+    uint64_t seed = 3;
+    int k;
+    renders = argc > 1 ? atol(argv[1]) : renders;
+    put_memory(&seed, memory);
+    pthread_barrier_init(&start, NULL, THREADS);
+    for (k = 0; k < THREADS; k++) {
+        alone[k].seed = together[k].seed = (uint64_t)k + 1;
+        alone[k].together = 0;
+        together[k].together = 1;
+        run(&alone[k]);
+        if (k > 0 && alone[k].result == alone[k - 1].result) {
+            fail("two sessions gave the same");
+        }
+    }
+    for (k = 0; k < THREADS; k++) {
+        if (pthread_create(&threads[k], NULL, run, &together[k]) != 0) {
+            fail("no thread");
+        }
+    }
+    for (k = 0; k < THREADS; k++) {
+        pthread_join(threads[k], NULL);
+        if (alone[k].result != together[k].result) {
+            fail("thread %d gave something else than alone", k);
+        }
+    }
+    printf("%d threads, %ld renders each, as alone\n", THREADS, renders);
+    return 0;
+}

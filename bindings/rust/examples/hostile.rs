@@ -1,0 +1,181 @@
+//! Bad input never ends a process: a million updates with random and hostile numbers, renders in between, under a limit of 256 MB of
+//! memory.
+//!
+//!     cargo build --release --example hostile && prlimit --as=268435456 target/release/examples/hostile [UPDATES]
+//!
+//! It prints how many calls were answered how, and fails where the process is not limited, a refusal changes something, or a kind of answer
+//! never came.
+use jeqlluna::{PARAMETERS, Refusal, Renderer};
+use std::collections::BTreeMap;
+use std::process::ExitCode;
+
+const MEMORY_LIMIT: u64 = 256 << 20;
+/// What the caller allows for a reply.
+const LIMIT: usize = 1 << 16;
+
+/// Numbers at which a size or a count may go wrong.
+const EXTREMES: [u32; 16] =
+    [0, 1, 2, 0x3f, 0x40, 0x70, 0x170, 0x930, 0xffff, 0x10000, 0x80_0000, 0x7fff_ffff, 0x8000_0000, 0xffff_ff90, u32::MAX - 1, u32::MAX];
+
+struct Random(u64);
+
+impl Random {
+    fn next(&mut self) -> u64 {
+        self.0 ^= self.0 << 13;
+        self.0 ^= self.0 >> 7;
+        self.0 ^= self.0 << 17;
+        self.0.wrapping_mul(0x2545_f491_4f6c_dd1d)
+    }
+
+    fn below(&mut self, most: usize) -> usize {
+        (((self.next() >> 32) * most as u64) >> 32) as usize
+    }
+
+    fn number(&mut self) -> u32 {
+        match self.below(3) {
+            0 => EXTREMES[self.below(EXTREMES.len())],
+            1 => self.below(0x2000) as u32,
+            _ => self.next() as u32,
+        }
+    }
+
+    fn fill(&mut self, bytes: &mut [u8]) {
+        for chunk in bytes.chunks_mut(8) {
+            let word = self.next().to_le_bytes();
+            chunk.copy_from_slice(&word[..chunk.len()]);
+        }
+    }
+}
+
+fn put(bytes: &mut [u8], at: usize, value: u32) {
+    if let Some(field) = bytes.get_mut(at..at + 4) {
+        field.copy_from_slice(&value.to_le_bytes());
+    }
+}
+
+/// Parameter bytes: mostly allowed counts, small ones more often, of any revision; sometimes anything; sometimes cut.
+fn parameters(r: &mut Random) -> Vec<u8> {
+    let mut p = vec![0; PARAMETERS];
+    let part = [1, 8, 8, 100][r.below(4)];
+    for (at, most) in [(0x08, 96), (0x0c, 31), (0x10, 64), (0x14, 8), (0x18, 64), (0x24, 32), (0x28, 128)] {
+        put(&mut p, at, r.below(most / part + 2).min(most) as u32);
+    }
+    put(&mut p, 0x00, r.number());
+    put(&mut p, 0x04, 1 + r.below(256) as u32);
+    put(&mut p, 0x30, u32::from_le_bytes([b'R', b'E', b'V', b'0' + r.below(12) as u8]));
+    match r.below(8) {
+        0 => put(&mut p, 4 * r.below(13), r.number()),
+        1 => p.truncate(r.below(PARAMETERS)),
+        2 => r.fill(&mut p[..]),
+        _ => {}
+    }
+    p
+}
+
+/// An update's input: sections laid out by sizes that fit the bytes or by any, records with marks in place, then numbers put anywhere,
+/// then a cut.
+fn input(r: &mut Random) -> Vec<u8> {
+    let mut d = vec![0; [0x40, 0x400, 0x1000, 0x4000][r.below(4)]];
+    if r.below(4) > 0 {
+        r.fill(&mut d);
+    }
+    let fits = r.below(2) == 0;
+    let mut rest = d.len() - 0x40;
+    for at in (0x04..0x24).step_by(4) {
+        let size = r.below(rest + 1);
+        put(&mut d, at, if fits { size as u32 } else { r.number() });
+        rest -= if fits { size } else { 0 };
+    }
+    // Voices in use, and the marks of splitters, somewhere.
+    for _ in 0..r.below(16) {
+        let at = 0x40 + 0x10 * r.below(d.len() / 0x10);
+        match r.below(4) {
+            0 => put(&mut d, at, u32::from_le_bytes(*b"SNDH")),
+            1 => put(&mut d, at, u32::from_le_bytes(*b"SNDI")),
+            2 => put(&mut d, at, u32::from_le_bytes(*b"SNDD")),
+            _ => put(&mut d, at + 8, 0x0200_0101),
+        }
+        put(&mut d, at + 4 * r.below(4) + 4, r.number());
+    }
+    for _ in 0..r.below(8) {
+        let at = r.below(d.len());
+        put(&mut d, at, r.number());
+    }
+    if r.below(4) == 0 {
+        d.truncate(r.below(d.len() + 1));
+    }
+    d
+}
+
+/// Whether the process may take no more than it should.
+fn limited() -> bool {
+    let limits = std::fs::read_to_string("/proc/self/limits").unwrap_or_default();
+    let line = limits.lines().find_map(|line| line.strip_prefix("Max address space")).unwrap_or_default().to_string();
+    line.split_whitespace().next().and_then(|most| most.parse::<u64>().ok()).is_some_and(|most| most <= MEMORY_LIMIT)
+}
+
+/// What a renderer would do next: the bits of its frames and then its reply.
+fn next(renderer: &Renderer, memory: &[u8]) -> (Vec<u32>, Vec<u8>) {
+    let (mut r, mut frames) = (renderer.clone(), [0.0f32; 512]);
+    r.render(0x10000, memory, &mut frames).expect("memory and frames are allowed");
+    (frames.iter().map(|x| x.to_bits()).collect(), r.update(0, &[], LIMIT).expect("the shortest reply"))
+}
+
+/// Counts an answer by its kind of call and its number.
+fn count<T>(tally: &mut BTreeMap<(&'static str, u32), u64>, call: &'static str, answer: &Result<T, Refusal>) {
+    *tally.entry((call, answer.as_ref().err().map_or(0, |e| e.number()))).or_default() += 1;
+}
+
+fn main() -> ExitCode {
+    let updates: u64 = std::env::args().nth(1).map_or(1_000_000, |n| n.parse().expect("a number of updates"));
+    if !limited() {
+        eprintln!("not limited to {MEMORY_LIMIT} bytes: run it under prlimit --as={MEMORY_LIMIT}");
+        return ExitCode::FAILURE;
+    }
+    let (r, mut tally) = (&mut Random(0x9e37_79b9_7f4a_7c15), BTreeMap::new());
+    let mut memory = vec![0; 4096];
+    r.fill(&mut memory);
+    let (mut made, mut longest, mut looked) = (0, 0, 0);
+    while made < updates {
+        let opened = Renderer::open_bytes(&parameters(r));
+        count(&mut tally, "open", &opened);
+        let Ok(mut renderer) = opened else { continue };
+        for _ in 0..64 {
+            // Now and then the caller allows a long reply, or one for which there is no memory.
+            let (expected, limit) = match r.below(4096) {
+                0 => (r.number(), 1 << 24),
+                1 => (u32::MAX, usize::MAX),
+                _ => (r.number(), LIMIT),
+            };
+            let bytes = input(r);
+            let too_long = renderer.reply_length(expected).expect("its parameters are allowed") > limit.min(MEMORY_LIMIT as usize);
+            let before = (too_long && r.below(16) == 0).then(|| renderer.clone());
+            let answer = renderer.update(expected, &bytes, limit);
+            made += 1;
+            count(&mut tally, "update", &answer);
+            assert_eq!(answer.is_err(), too_long, "{answer:?}");
+            longest = longest.max(answer.map_or(0, |reply| reply.len()));
+            if let Some(before) = before {
+                looked += 1;
+                assert_eq!(next(&before, &memory), next(&renderer, &memory), "a refusal changed something");
+            }
+            if r.below(4) == 0 {
+                let mut frames = [0.0; 512];
+                let base = if r.below(8) == 0 { r.next() } else { u64::from(r.number()) };
+                let room = if r.below(16) == 0 { r.below(513) } else { 512 };
+                count(&mut tally, "render", &renderer.render(base, &memory, &mut frames[..room]));
+            }
+        }
+    }
+    for ((call, number), n) in &tally {
+        println!("{call} answered {number}: {n}");
+    }
+    println!("{made} updates, the longest reply {longest} bytes; of the refused {looked} were looked at, and none had changed anything");
+    let due = [("open", 0), ("open", 1), ("open", 2), ("render", 0), ("render", 5), ("render", 7), ("update", 0), ("update", 6)];
+    let came: Vec<_> = tally.keys().copied().collect();
+    if updates >= 10_000 && came != due {
+        eprintln!("other answers than those that are due");
+        return ExitCode::FAILURE;
+    }
+    ExitCode::SUCCESS
+}
