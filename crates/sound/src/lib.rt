@@ -5,6 +5,7 @@ mod pcm;
 
 pub use act::Played;
 pub use channel::fetch_channel;
+pub use pcm::zeros;
 ghost use mathlib.Core.Path.{_≡_};
 ghost use Rattle.sound.specs.Sound.{tableOf};
 use plan::Source;

@@ -10,7 +10,7 @@ ghost use Prim.Native.Nat.{_≤_, _<_, max};
 ghost use lib.Dec.{T};
 ghost use Rattle.floats.specs.Unit.{inUnit};
 ghost use Rattle.resample.specs.Defs.{nextOf};
-ghost use Rattle.turn.specs.Turn.{takesPart, with, freshened, beginOf, skipsConversion, speedOf, ratioOf, sourceOf, previousOf, turnOf, seen};
+ghost use Rattle.turn.specs.Turn.{takesPart, with, freshened, beginOf, skipsConversion, speedOf, ratioOf, sourceOf, neededBy, previousOf, turnOf, seen};
 
 // What a render gives to each voice: its samples, the renderer's rate, whether the revision is 8 or later, and sample memory's base and length.
 pub struct Render {
@@ -137,6 +137,13 @@ fn finish(v: Voice, previous: f32, q: Queue, fraction: f32) -> Voice
     w.previous_volume = previous;
     w.fraction = fraction;
     w
+}
+
+// The samples that the turn of a voice takes.
+pub fn samples_needed(v: Voice, r: Render) -> usize
+    ensures { λ n. ⌜ n ≡ neededBy v r ⌝ }
+{
+    resample::needed(v.fraction, ratio(v, r.sample_rate), r.sample_count)
 }
 
 // The turn of a voice that is ready.

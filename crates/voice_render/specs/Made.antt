@@ -20,7 +20,7 @@ beginning-of c h y = record { allowed = c .allowed; sized = c .sized; inside = h
 
 module _ (p : Params) (k : ℕ) (st : State) {u : State} {b : Prepared} (e : begunOf u b ≡ begun p k st) where
   -- what the turn asks
-  pub rendering-of : {r : Render} {m : List ℕ} {src out : List Float} → Renderable p r m st → Beginning p k st → Room p src out → b .ready ≡ true → Rendering p r m k u (b .voice) src out
+  pub rendering-of : {r : Render} {m : List ℕ} {out : List Float} → Renderable p r m st → Beginning p k st → Room p out → b .ready ≡ true → Rendering p r m k u (b .voice) out
   rendering-of c q room h =
       let g = subst (Begins p k st) (sym e) (begun-facts q) in
       record { desk = renderable-same c (g .only); inside = q .inside; playing = g .playing; some = g .some h; room = room }

@@ -24,7 +24,7 @@ pub fn render_voice(
     src: &mut [f32],
     out: &mut [f32],
 ) -> u32
-    requires { ⌜ Renderable p r (now memory) (stateOf (now words) (now longs) (now floats) (now contexts) (now history)) ⌝ ∗ ⌜ k < p .voices ⌝ ∗ ⌜ Playable p k (stateOf (now words) (now longs) (now floats) (now contexts) (now history)) ⌝ ∗ ⌜ Room p (now src) (now out) ⌝ }
+    requires { ⌜ Renderable p r (now memory) (stateOf (now words) (now longs) (now floats) (now contexts) (now history)) ⌝ ∗ ⌜ k < p .voices ⌝ ∗ ⌜ Playable p k (stateOf (now words) (now longs) (now floats) (now contexts) (now history)) ⌝ ∗ ⌜ Room p (now out) ⌝ }
     ensures { λ rounds. ⌜ ((n : ℕ) → studio (stateOf (now (words .exit)) (now (longs .exit)) (now (floats .exit)) (now (contexts .exit)) (now (history .exit))) (now (buffers .exit)) (n + rounds) ≡ renderVoice p r (now (memory .entry)) k (studio (stateOf (now (words .entry)) (now (longs .entry)) (now (floats .entry)) (now (contexts .entry)) (now (history .entry))) (now (buffers .entry)) n)) ⌝ }
 {
     if state_voices::idle(k, words) {
@@ -39,6 +39,7 @@ pub fn render_voice(
             memory,
             k,
             v,
+            0,
             words,
             longs,
             floats,

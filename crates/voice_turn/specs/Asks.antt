@@ -18,7 +18,8 @@ use Rattle.voice_rows.specs.VoiceRow.{wordsOf, floatsOf}
 use Rattle.voice_sends.specs.Sending.{Ids}
 use Rattle.turn.specs.declared.Render.{Render}
 use Rattle.turn.specs.declared.Turn.{Turn}
-use Rattle.turn.specs.Turn.{turnOf, seen}
+use Rattle.turn.specs.Turn.{neededBy, turnOf, seen}
+use Rattle.turn.specs.Laws.{needed-few}
 use Rattle.state_voices.specs.StateVoices.{Playing}
 use Rattle.state_voices.specs.Keeps.{OnlyVoice, only-voice}
 
@@ -31,9 +32,8 @@ pub record Renderable (p : Params) (r : Render) (m : List ℕ) (st : State) : Ty
   pub samples : r .«sample_count» ≡ p .«sample_count»
   pub memory : r .size ≡ length m
 
--- what a voice is played in: a row of samples in src, and a row for each of six channels in out
-pub record Room (p : Params) (src out : List Float) : Type 0 where
-  pub row : 4100 ≤ length src
+-- what a voice is heard in: a row for each of six channels
+pub record Room (p : Params) (out : List Float) : Type 0 where
   pub rows : 6 * p .«sample_count» ≤ length out
 
 -- the sound of a turn t: it is that of the voice, and there is room for a row of samples in src and for each channel's in out
@@ -44,7 +44,7 @@ pub record Sounding (t : Turn) (v : Voice) (r : Render) (m : List ℕ) (src out 
   pub fraction : T (inUnit (v .fraction))
   pub samples : r .«sample_count» ≤ 256
   pub memory : r .size ≡ length m
-  pub row : 4100 ≤ length src
+  pub row : 3 + t .needed ≤ length src
   pub rows : 6 * r .«sample_count» ≤ length out
 
 -- the sends of a voice, of the first rows of out
@@ -60,12 +60,12 @@ pub record Sendable (p : Params) (v : Voice) (out : List Float) (w : List ℕ) (
   pub rows : v .channels * p .«sample_count» ≤ length out
 
 -- the turn of voice k as v
-pub record Rendering (p : Params) (r : Render) (m : List ℕ) (k : ℕ) (st : State) (v : Voice) (src out : List Float) : Type 0 where
+pub record Rendering (p : Params) (r : Render) (m : List ℕ) (k : ℕ) (st : State) (v : Voice) (out : List Float) : Type 0 where
   pub desk : Renderable p r m st
   pub inside : k < p .voices
   pub playing : Playing (p .voices) v
   pub some : 1 ≤ v .channels
-  pub room : Room p src out
+  pub room : Room p out
 
 -- ---- a state that differs only at voice k is as renderable
 
@@ -79,21 +79,29 @@ renderable-same {p} q o = record {
   memory = q .memory;
 }
 
-module _ {p : Params} {r : Render} {m : List ℕ} {k : ℕ} {st : State} {v : Voice} {src out : List Float} (q : Rendering p r m k st v src out) where
+module _ {p : Params} {r : Render} {m : List ℕ} {k : ℕ} {st : State} {v : Voice} {out : List Float} (q : Rendering p r m k st v out) where
   pub samples-few : r .«sample_count» ≤ 256
   samples-few = omega (arith, q .desk .samples, q .desk .allowed .samples)
 
-  pub sounding-of : {t : Turn} → seen t ≡ turnOf v r → Sounding t v r m src out
-  sounding-of e = record {
-    turn = e;
-    some = q .some;
-    few = q .playing .channels;
-    fraction = q .playing .fraction;
-    samples = samples-few;
-    memory = q .desk .memory;
-    row = q .room .row;
-    rows = rw (q .desk .samples) (q .room .rows);
-  }
+  -- the row takes the samples that are needed behind three
+  pub needed-upto : neededBy v r ≤ 4097
+  unfolding turnOf
+  needed-upto = needed-few v r (q .playing .fraction) samples-few
+
+  pub sounding-of : {t : Turn} {src : List Float} → seen t ≡ turnOf v r → 3 + neededBy v r ≤ length src → Sounding t v r m src out
+  unfolding turnOf
+  sounding-of {t = t} e h =
+      let n : t .needed ≡ neededBy v r = λ i. e i .needed in
+      record {
+        turn = e;
+        some = q .some;
+        few = q .playing .channels;
+        fraction = q .playing .fraction;
+        samples = samples-few;
+        memory = q .desk .memory;
+        row = rw n h;
+        rows = rw (q .desk .samples) (q .room .rows);
+      }
 
   -- after the voice is stored, as u
   pub sendable-of : (u : Voice) {w : List ℕ} {f : List Float} (o : List Float) → w ≡ put (st .words) (10 + k * 58) (wordsOf u) → f ≡ put (st .floats) (k * 4) (floatsOf u)

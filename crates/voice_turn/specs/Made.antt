@@ -62,14 +62,11 @@ module _ {t : Turn} {v : Voice} {r : Render} {m : List ℕ} {src out : List Floa
   -- it can be played in a row with room
   pub turn-ready : Ready (t .plan) s m (take (3 + t .needed) src)
   turn-ready =
-      let long : length (take (3 + t .needed) src) ≡ 3 + t .needed = length-take-le (3 + t .needed) src (omega (arith, needed-upto, q .row)) in
+      let long : length (take (3 + t .needed) src) ≡ 3 + t .needed = length-take-le (3 + t .needed) src (q .row) in
       let row : t .needed ≡ length (take (3 + t .needed) src) - 3 = omega (arith, long) in
       let p = turn-plan v r t (q .turn) ∙ (λ i. planOf (queueOf v) (sym es i) (row i)) in
       plan-ready (t .plan) (queueOf v) s m (take (3 + t .needed) src) p (omega (arith, long)) ((λ i. es i .size) ∙ q .memory)
       (subst (λ (x : Source). x .channels ≤ 6) (sym es) (q .few))
-
-  pub turn-row : 3 + t .needed ≤ length src
-  turn-row = omega (arith, needed-upto, q .row)
 
   pub turn-channels : (1 ≤ s .channels) × (s .channels ≤ 6)
   turn-channels = subst (λ (x : Source). (1 ≤ x .channels) × (x .channels ≤ 6)) (sym es) (q .some, q .few)

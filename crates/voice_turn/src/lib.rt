@@ -1,10 +1,12 @@
 // The turn of a voice that is ready (mixer.rs `render_voice`), on the state's slices and the mix buffers.
 // What moves the voice's position (`turn::plan_turn`) is handed no sample.
 ghost use mathlib.Core.Path.{_≡_};
-ghost use Prim.Native.Nat.{ℕ, _+_, _*_};
-ghost use lib.ListN.{take};
+ghost use mathlib.Core.Bool.{true, false};
+ghost use Prim.Native.Nat.{ℕ, _+_, _*_, _≤_};
+ghost use lib.ListN.{length, take};
 ghost use Rattle.rows.specs.Rows.{put};
 ghost use Rattle.state.specs.State.{stateOf};
+ghost use Rattle.turn.specs.Turn.{neededBy};
 ghost use Rattle.sound_rows.specs.SoundRow.{contextsOf, historyOf};
 ghost use Rattle.playing.specs.Playing.{playedSound};
 ghost use Rattle.hearing.specs.Hearing.{soundIn, heardOut};
@@ -85,8 +87,8 @@ fn send_turn(
     }
 }
 
-// The turn of a voice that is ready: planned, stored, heard and sent. Gives its rounds.
-pub fn render_ready(
+// The turn of a voice that is ready: planned, stored, heard and sent. Gives its rounds. `src` has room for its samples.
+fn turn_in(
     p: Params,
     r: Render,
     memory: &[u8],
@@ -101,7 +103,7 @@ pub fn render_ready(
     src: &mut [f32],
     out: &mut [f32],
 ) -> u32
-    requires { ⌜ Rendering p r (now memory) k (stateOf (now words) (now longs) (now floats) (now contexts) (now history)) v (now src) (now out) ⌝ }
+    requires { ⌜ Rendering p r (now memory) k (stateOf (now words) (now longs) (now floats) (now contexts) (now history)) v (now out) ⌝ ∗ ⌜ 3 + neededBy v r ≤ length (now src) ⌝ }
     ensures { λ rounds. ⌜ ((n : ℕ) → studio (stateOf (now (words .exit)) (now (longs .exit)) (now (floats .exit)) (now (contexts .exit)) (now (history .exit))) (now (buffers .exit)) (n + rounds) ≡ played p r (now (memory .entry)) k v (studio (stateOf (now (words .entry)) (now (longs .entry)) (now (floats .entry)) (now (contexts .entry)) (now (history .entry))) (now (buffers .entry)) n)) ⌝ }
 {
     let t = turn::plan_turn(v, r);
@@ -110,4 +112,126 @@ pub fn render_ready(
     hear_turn(t, v, r, memory, k, contexts, history, src, out);
     send_turn(p, v, t.from, t.to, out, words, floats, buffers);
     t.plan.rounds
+}
+
+// The same in a row of its own, which has room for the samples of every turn.
+fn turn_far(
+    p: Params,
+    r: Render,
+    memory: &[u8],
+    k: usize,
+    v: Voice,
+    words: &mut [u32],
+    longs: &mut [u64],
+    floats: &mut [f32],
+    contexts: &mut [u16],
+    history: &mut [f32],
+    buffers: &mut [f32],
+    out: &mut [f32],
+) -> u32
+    requires { ⌜ Rendering p r (now memory) k (stateOf (now words) (now longs) (now floats) (now contexts) (now history)) v (now out) ⌝ }
+    ensures { λ rounds. ⌜ ((n : ℕ) → studio (stateOf (now (words .exit)) (now (longs .exit)) (now (floats .exit)) (now (contexts .exit)) (now (history .exit))) (now (buffers .exit)) (n + rounds) ≡ played p r (now (memory .entry)) k v (studio (stateOf (now (words .entry)) (now (longs .entry)) (now (floats .entry)) (now (contexts .entry)) (now (history .entry))) (now (buffers .entry)) n)) ⌝ }
+{
+    let mut row = [0.0f32; 4100];
+    turn_in(
+        p,
+        r,
+        memory,
+        k,
+        v,
+        words,
+        longs,
+        floats,
+        contexts,
+        history,
+        buffers,
+        &mut row,
+        out,
+    )
+}
+
+// Whether a row has room for so many samples behind three: row 0 by its places, and row 1 always.
+fn enough(row: u32, places: usize, needed: usize) -> bool
+    requires { ⌜ needed ≤ 4097 ⌝ }
+    ensures { λ b. ⌜ (b ≡ true → row ≡ 0 → 3 + needed ≤ places) × (b ≡ false → row ≡ 0) ⌝ }
+{
+    if row == 0 {
+        if 3 + needed <= places {
+            return true;
+        }
+        return false;
+    }
+    true
+}
+
+// The same in the first row from `row` on that has room: row 0 is src, and row 1 one of its own.
+// That it calls itself keeps that row out of its frame of the stack: the compiler takes no large frame into a function that calls itself.
+pub fn render_ready(
+    p: Params,
+    r: Render,
+    memory: &[u8],
+    k: usize,
+    v: Voice,
+    row: u32,
+    words: &mut [u32],
+    longs: &mut [u64],
+    floats: &mut [f32],
+    contexts: &mut [u16],
+    history: &mut [f32],
+    buffers: &mut [f32],
+    src: &mut [f32],
+    out: &mut [f32],
+) -> u32
+    requires { ⌜ Rendering p r (now memory) k (stateOf (now words) (now longs) (now floats) (now contexts) (now history)) v (now out) ⌝ }
+    ensures { λ rounds. ⌜ ((n : ℕ) → studio (stateOf (now (words .exit)) (now (longs .exit)) (now (floats .exit)) (now (contexts .exit)) (now (history .exit))) (now (buffers .exit)) (n + rounds) ≡ played p r (now (memory .entry)) k v (studio (stateOf (now (words .entry)) (now (longs .entry)) (now (floats .entry)) (now (contexts .entry)) (now (history .entry))) (now (buffers .entry)) n)) ⌝ }
+{
+    if enough(row, src.len(), turn::samples_needed(v, r)) {
+        if row == 0 {
+            return turn_in(
+                p,
+                r,
+                memory,
+                k,
+                v,
+                words,
+                longs,
+                floats,
+                contexts,
+                history,
+                buffers,
+                src,
+                out,
+            );
+        }
+        return turn_far(
+            p,
+            r,
+            memory,
+            k,
+            v,
+            words,
+            longs,
+            floats,
+            contexts,
+            history,
+            buffers,
+            out,
+        );
+    }
+    render_ready(
+        p,
+        r,
+        memory,
+        k,
+        v,
+        row + 1,
+        words,
+        longs,
+        floats,
+        contexts,
+        history,
+        buffers,
+        src,
+        out,
+    )
 }

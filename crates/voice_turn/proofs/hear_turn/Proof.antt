@@ -5,7 +5,7 @@ use Rattle.rows.specs.Rows.{put}
 use Rattle.sound_rows.specs.SoundRow.{contextsOf, historyOf}
 use Rattle.playing.specs.Playing.{playedSound}
 use Rattle.hearing.specs.Hearing.{soundIn}
-use Rattle.voice_turn.specs.Made.{material-made, heard-made, needed-upto, turn-ready, turn-row, turn-channels, turn-rows}
+use Rattle.voice_turn.specs.Made.{material-made, heard-made, needed-upto, turn-ready, turn-channels, turn-rows}
 use borrow.Author.Needs.{needs}
 use Rattle.voice_turn.proofs.hear_turn.Statement.{statement}
 use Rattle.voice_turn.proofs.hear_turn.Tie as tie
@@ -16,7 +16,7 @@ hear-requires c κs =
     let q = s .pre .0 in
     let e = c .before .before .before .before .before .source-of .ensures in
     let i = s .pre .1 in
-    (turn-ready q e, ((turn-row q e, needed-upto q e), (turn-channels q e, ((q .samples, turn-rows q e), (i .few, i .contexts, i .history)))))
+    (turn-ready q e, ((q .row, needed-upto q e), (turn-channels q e, ((q .samples, turn-rows q e), (i .few, i .contexts, i .history)))))
 
 returns : tie.Need-returns
 returns c =
