@@ -4,7 +4,7 @@ use mathlib.Core.List.{List, [], _∷_, _++_}
 use Prim.Native.Nat.{ℕ, zero, suc, _+_, _*_, _^_, _%_, _≤_, _<_}
 use native.Mathlib.Omega.{arith}
 use lib.Ieee.{Float, nan}
-use lib.ListN.{length, take, drop, getD, set, replicate, length-set, length-replicate, getD-replicate}
+use lib.ListN.{length, take, drop, getD, set, replicate, length-set, length-append, length-replicate, getD-replicate, List·getD-append}
 use Rattle.floats.specs.Defs.{zero32}
 use Rattle.rows.specs.Rows.{part, part-put-after, put-one}
 use Rattle.rows.specs.Folds.{upTo}
@@ -101,8 +101,12 @@ take-replicate zero n z h = refl
 take-replicate (suc k) zero z h = absurd (omega arith)
 take-replicate (suc k) (suc n) z h = ap (λ (xs : List Float). z ∷ xs) (take-replicate k n z (omega arith))
 
-pub silent : (k n : ℕ) → k ≤ n → Silent k (replicate n zero32)
-silent k n h = record { size = rw length-replicate h; zeros = λ i l. getD-replicate n i zero32 nan (omega arith) }
+-- a row that begins with n zeros
+pub silent : (n : ℕ) (rest : List Float) {row : List Float} → row ≡ replicate n zero32 ++ rest → Silent n row
+silent n rest e = record {
+  size = rw (e, length-append, length-replicate) (omega arith);
+  zeros = λ i l. rw e (List·getD-append (replicate n zero32) rest nan i (rw length-replicate l) ∙ getD-replicate n i zero32 nan l);
+}
 
 -- ---- what the steps leave, together
 

@@ -1,5 +1,5 @@
 pub mod Render
 pub mod Loop
 pub mod Laws
-pub mod Blank
+pub mod Rooms
 pub mod FromWhole

@@ -1,14 +1,14 @@
 // A render (mixer.rs `render`): every voice in turn, then the sub-mixes and the sink.
+mod rooms;
 mod turns;
 
 ghost use mathlib.Core.Path.{_≡_};
 ghost use Prim.Native.Nat.{_+_, _*_, _^_, _%_, _≤_};
 ghost use lib.ListN.{length, getD, set};
 ghost use Rattle.state.specs.State.{stateOf};
-ghost use Rattle.sink.specs.Sink.{Silent};
-ghost use Rattle.voice_turn.specs.Asks.{Room};
 ghost use Rattle.desk_render.specs.DeskRender.{Mixable};
 ghost use Rattle.render.specs.Render.{Playing, rendered, renderedOn, renderedBy, renderOf, framesOn};
+ghost use Rattle.render.specs.Rooms.{Blank, Rows};
 use params::Params;
 use turn::Render;
 
@@ -20,24 +20,25 @@ fn count_render(longs: &mut [u64])
     longs[0] = std::num::wrapping_add_u64(longs[0], 1);
 }
 
-// The sub-mixes and the sink. `row` is room for a row of samples, and `silent` has one of zeros.
+// The sub-mixes and the sink. `row` is room for a row of samples: one of a sub-mix, then one of silence.
 fn finish(
     p: Params,
     words: &[u32],
     floats: &[f32],
     buffers: &mut [f32],
     row: &mut [f32],
-    silent: &[f32],
     frames: &mut [f32],
 )
-    requires { ⌜ Mixable p (now words) (now floats) ⌝ ∗ ⌜ length (now row) ≡ p .«sample_count» ⌝ ∗ ⌜ Silent (p .«sample_count») (now silent) ⌝ ∗ ⌜ 2 * p .«sample_count» ≤ length (now frames) ⌝ }
+    requires { ⌜ Mixable p (now words) (now floats) ⌝ ∗ ⌜ length (now row) ≡ p .«sample_count» ⌝ ∗ ⌜ 2 * p .«sample_count» ≤ length (now frames) ⌝ }
     ensures { λ _. ⌜ now (frames .exit) ≡ framesOn p (now (words .entry)) (now (floats .entry)) (now (buffers .entry)) (now (frames .entry)) ⌝ }
 {
     desk_render::render_mixes(p, words, floats, buffers, row);
-    desk_render::write_sink(p, words, floats, buffers, silent, frames);
+    let n = p.sample_count as usize;
+    sound::zeros(n, row);
+    desk_render::write_sink(p, words, floats, buffers, row, frames);
 }
 
-// A render into mix buffers that are lent, and with room that is lent.
+// A render into mix buffers that are lent, with rows that are lent. After the voices `src` has room for a row of the desk.
 fn render_on(
     p: Params,
     r: Render,
@@ -50,11 +51,9 @@ fn render_on(
     buffers: &mut [f32],
     src: &mut [f32],
     out: &mut [f32],
-    row: &mut [f32],
-    silent: &[f32],
     frames: &mut [f32],
 ) -> u32
-    requires { ⌜ Playing p r (now memory) 0 (stateOf (now words) (now longs) (now floats) (now contexts) (now history)) ⌝ ∗ ⌜ Room p (now src) (now out) ⌝ ∗ ⌜ length (now row) ≡ p .«sample_count» ⌝ ∗ ⌜ Silent (p .«sample_count») (now silent) ⌝ ∗ ⌜ 2 * p .«sample_count» ≤ length (now frames) ⌝ }
+    requires { ⌜ Playing p r (now memory) 0 (stateOf (now words) (now longs) (now floats) (now contexts) (now history)) ⌝ ∗ ⌜ Rows p (now src) (now out) ⌝ ∗ ⌜ 2 * p .«sample_count» ≤ length (now frames) ⌝ }
     ensures { λ rounds. ⌜ rendered (stateOf (now (words .exit)) (now (longs .exit)) (now (floats .exit)) (now (contexts .exit)) (now (history .exit))) rounds (now (frames .exit))
         ≡ renderedOn p r (now (memory .entry)) (stateOf (now (words .entry)) (now (longs .entry)) (now (floats .entry)) (now (contexts .entry)) (now (history .entry))) (now (buffers .entry)) (now (frames .entry)) ⌝ }
 {
@@ -72,12 +71,13 @@ fn render_on(
         src,
         out,
     );
-    finish(p, words, floats, buffers, row, silent, frames);
+    let n = p.sample_count as usize;
+    finish(p, words, floats, buffers, &mut src[..n], frames);
     rounds
 }
 
-// A render into mix buffers that are lent. The rows are made once for all voices.
-fn render_into(
+// A render with room that is lent: mix buffers that are silent as far as it needs them, and rows.
+fn render_lent(
     p: Params,
     base: u64,
     memory: &[u8],
@@ -87,17 +87,16 @@ fn render_into(
     contexts: &mut [u16],
     history: &mut [f32],
     buffers: &mut [f32],
+    src: &mut [f32],
+    out: &mut [f32],
     frames: &mut [f32],
 ) -> u32
-    requires { ⌜ Playing p (renderOf p base (length (now memory))) (now memory) 0 (stateOf (now words) (now longs) (now floats) (now contexts) (now history)) ⌝ ∗ ⌜ 2 * p .«sample_count» ≤ length (now frames) ⌝ }
+    requires { ⌜ Playing p (renderOf p base (length (now memory))) (now memory) 0 (stateOf (now words) (now longs) (now floats) (now contexts) (now history)) ⌝ ∗ ⌜ 2 * p .«sample_count» ≤ length (now frames) ⌝
+        ∗ ⌜ Blank p (now buffers) ⌝ ∗ ⌜ Rows p (now src) (now out) ⌝ }
     ensures { λ rounds. ⌜ rendered (stateOf (now (words .exit)) (now (longs .exit)) (now (floats .exit)) (now (contexts .exit)) (now (history .exit))) rounds (now (frames .exit))
-        ≡ renderedOn p (renderOf p base (length (now (memory .entry)))) (now (memory .entry)) (stateOf (now (words .entry)) (now (longs .entry)) (now (floats .entry)) (now (contexts .entry)) (now (history .entry))) (now (buffers .entry)) (now (frames .entry)) ⌝ }
+        ≡ renderedBy p base (now (memory .entry)) (stateOf (now (words .entry)) (now (longs .entry)) (now (floats .entry)) (now (contexts .entry)) (now (history .entry))) (now (frames .entry)) ⌝ }
 {
-    let mut src = [0.0f32; 4100];
-    let mut out = [0.0f32; 1536];
-    let mut row = [0.0f32; 256];
-    let silent = [0.0f32; 256];
-    let n = p.sample_count as usize;
+    let total = p.mix_buffers as usize * p.sample_count as usize;
     let r = render_of(p, base, memory.len() as u64);
     render_on(
         p,
@@ -108,75 +107,9 @@ fn render_into(
         floats,
         contexts,
         history,
-        buffers,
-        &mut src,
-        &mut out,
-        &mut row[..n],
-        &silent,
-        frames,
-    )
-}
-
-// A render with room for few mix buffers: less to make silent.
-fn render_few(
-    p: Params,
-    base: u64,
-    memory: &[u8],
-    words: &mut [u32],
-    longs: &mut [u64],
-    floats: &mut [f32],
-    contexts: &mut [u16],
-    history: &mut [f32],
-    frames: &mut [f32],
-) -> u32
-    requires { ⌜ Playing p (renderOf p base (length (now memory))) (now memory) 0 (stateOf (now words) (now longs) (now floats) (now contexts) (now history)) ⌝ ∗ ⌜ 2 * p .«sample_count» ≤ length (now frames) ⌝ ∗ ⌜ p .«mix_buffers» * p .«sample_count» ≤ 6144 ⌝ }
-    ensures { λ rounds. ⌜ rendered (stateOf (now (words .exit)) (now (longs .exit)) (now (floats .exit)) (now (contexts .exit)) (now (history .exit))) rounds (now (frames .exit))
-        ≡ renderedBy p base (now (memory .entry)) (stateOf (now (words .entry)) (now (longs .entry)) (now (floats .entry)) (now (contexts .entry)) (now (history .entry))) (now (frames .entry)) ⌝ }
-{
-    let mut buffers = [0.0f32; 6144];
-    let total = p.mix_buffers as usize * p.sample_count as usize;
-    render_into(
-        p,
-        base,
-        memory,
-        words,
-        longs,
-        floats,
-        contexts,
-        history,
         &mut buffers[..total],
-        frames,
-    )
-}
-
-// A render with room for all mix buffers that there can be.
-fn render_many(
-    p: Params,
-    base: u64,
-    memory: &[u8],
-    words: &mut [u32],
-    longs: &mut [u64],
-    floats: &mut [f32],
-    contexts: &mut [u16],
-    history: &mut [f32],
-    frames: &mut [f32],
-) -> u32
-    requires { ⌜ Playing p (renderOf p base (length (now memory))) (now memory) 0 (stateOf (now words) (now longs) (now floats) (now contexts) (now history)) ⌝ ∗ ⌜ 2 * p .«sample_count» ≤ length (now frames) ⌝ }
-    ensures { λ rounds. ⌜ rendered (stateOf (now (words .exit)) (now (longs .exit)) (now (floats .exit)) (now (contexts .exit)) (now (history .exit))) rounds (now (frames .exit))
-        ≡ renderedBy p base (now (memory .entry)) (stateOf (now (words .entry)) (now (longs .entry)) (now (floats .entry)) (now (contexts .entry)) (now (history .entry))) (now (frames .entry)) ⌝ }
-{
-    let mut buffers = [0.0f32; 24576];
-    let total = p.mix_buffers as usize * p.sample_count as usize;
-    render_into(
-        p,
-        base,
-        memory,
-        words,
-        longs,
-        floats,
-        contexts,
-        history,
-        &mut buffers[..total],
+        src,
+        out,
         frames,
     )
 }
@@ -197,20 +130,8 @@ pub fn render(
     ensures { λ rounds. ⌜ rendered (stateOf (now (words .exit)) (now (longs .exit)) (now (floats .exit)) (now (contexts .exit)) (now (history .exit))) rounds (now (frames .exit))
         ≡ renderedBy p base (now (memory .entry)) (stateOf (now (words .entry)) (now (longs .entry)) (now (floats .entry)) (now (contexts .entry)) (now (history .entry))) (now (frames .entry)) ⌝ }
 {
-    if p.mix_buffers as usize * p.sample_count as usize <= 6144 {
-        return render_few(
-            p,
-            base,
-            memory,
-            words,
-            longs,
-            floats,
-            contexts,
-            history,
-            frames,
-        );
-    }
-    render_many(
+    rooms::render_from(
+        0,
         p,
         base,
         memory,

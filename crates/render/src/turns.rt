@@ -22,7 +22,7 @@ pub fn render_voices(
     src: &mut [f32],
     out: &mut [f32],
 ) -> u32
-    requires { ⌜ Playing p r (now memory) 0 (stateOf (now words) (now longs) (now floats) (now contexts) (now history)) ⌝ ∗ ⌜ Room p (now src) (now out) ⌝ }
+    requires { ⌜ Playing p r (now memory) 0 (stateOf (now words) (now longs) (now floats) (now contexts) (now history)) ⌝ ∗ ⌜ Room p (now out) ⌝ }
     ensures { λ rounds. ⌜ studio (stateOf (now (words .exit)) (now (longs .exit)) (now (floats .exit)) (now (contexts .exit)) (now (history .exit))) (now (buffers .exit)) rounds
         ≡ voicesRendered p r (now (memory .entry)) (p .voices) (studio (stateOf (now (words .entry)) (now (longs .entry)) (now (floats .entry)) (now (contexts .entry)) (now (history .entry))) (now (buffers .entry)) 0) ⌝ }
 {

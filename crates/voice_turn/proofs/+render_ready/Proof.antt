@@ -29,45 +29,45 @@ pub +render-ready-spec : {M : Type 1} → statement M
 +render-ready-spec =
     close μ-ready
     (λ t.
-        lts.spec
-        (samples-needed.Asked, samples-needed.Learnt, enough.Asked, enough.Learnt, turn-in.Asked, turn-in.Learnt, turn-far.Asked, turn-far.Learnt, ready-below t, ready.Post)
-        (ready-at t)
-        ready.Post
-        (λ c κs. search needs)
-        (λ c κs. rw (c .samples-needed .ensures) (needed-upto (c .before .before .before .before .before .before .before .before .before .before .pre .1)))
-        (λ c κs.
-            let asked = c .before .before .before .before .before .before .before .before .before .before in
-            let start = asked .before .before .before .before .before .before .before .before .before .before .before in
-            let room = asked .enough .ensures .0 (c .before .before .before .before .before .before .before .before .before .if1 .taken) (c .before .before .before .before .before .before .before .before .if2 .taken) in
-            (start .pre .1, omega (arith, asked .before .samples-needed .ensures, room)))
-        (λ c. search needs)
-        (λ c. search needs)
-        (λ c. search needs)
-        (λ c. search needs)
-        (λ c. search needs)
-        (λ c. search needs)
-        (λ c. search needs)
-        (λ c. search needs)
-        (λ c. search needs)
-        (λ c κs. c .before .before .before .before .before .before .before .before .before .before .before .before .before .before .before .before .before .before .before .before .pre .1)
-        (λ c. search needs)
-        (λ c. search needs)
-        (λ c. search needs)
-        (λ c. search needs)
-        (λ c. search needs)
-        (λ c. search needs)
-        (λ c. search needs)
-        (λ c. search needs)
-        (λ c. omega (arith, c .before .enough .ensures .1 (c .if1 .left)))
-        (λ c κs.
-            let start = c .before .before .before .before .before .before .before .before .before .before .before .before .before .before .before .before .before .before .before .before in
-            (omega (arith, start .pre .0, c .before .before .before .before .before .before .before .before .before .enough .ensures .1 (c .before .before .before .before .before .before .before .before .if1 .left)), start .pre .1))
-        (λ c. search needs)
-        (λ c. search needs)
-        (λ c. search needs)
-        (λ c. search needs)
-        (λ c. search needs)
-        (λ c. search needs)
-        (λ c. search needs)
-        (λ c. search needs)
-        (λ c. search needs))
+    lts.spec
+    (samples-needed.Asked, samples-needed.Learnt, enough.Asked, enough.Learnt, turn-in.Asked, turn-in.Learnt, turn-far.Asked, turn-far.Learnt, ready-below t, ready.Post)
+    (ready-at t)
+    ready.Post
+    (λ c κs. search needs)
+    (λ c κs. rw (c .samples-needed .ensures) (needed-upto (c .before .before .before .before .before .before .before .before .before .before .pre .1)))
+    (λ c κs.
+    let asked = c .before .before .before .before .before .before .before .before .before .before in
+    let start = asked .before .before .before .before .before .before .before .before .before .before .before in
+    let room = asked .enough .ensures .0 (c .before .before .before .before .before .before .before .before .before .if1 .taken) (c .before .before .before .before .before .before .before .before .if2 .taken) in
+    (start .pre .1, omega (arith, asked .before .samples-needed .ensures, room)))
+    (λ c. search needs)
+    (λ c. search needs)
+    (λ c. search needs)
+    (λ c. search needs)
+    (λ c. search needs)
+    (λ c. search needs)
+    (λ c. search needs)
+    (λ c. search needs)
+    (λ c. search needs)
+    (λ c κs. c .before .before .before .before .before .before .before .before .before .before .before .before .before .before .before .before .before .before .before .before .pre .1)
+    (λ c. search needs)
+    (λ c. search needs)
+    (λ c. search needs)
+    (λ c. search needs)
+    (λ c. search needs)
+    (λ c. search needs)
+    (λ c. search needs)
+    (λ c. search needs)
+    (λ c. omega (arith, c .before .enough .ensures .1 (c .if1 .left)))
+    (λ c κs.
+    let start = c .before .before .before .before .before .before .before .before .before .before .before .before .before .before .before .before .before .before .before .before in
+    (omega (arith, start .pre .0, c .before .before .before .before .before .before .before .before .before .enough .ensures .1 (c .before .before .before .before .before .before .before .before .if1 .left)), start .pre .1))
+    (λ c. search needs)
+    (λ c. search needs)
+    (λ c. search needs)
+    (λ c. search needs)
+    (λ c. search needs)
+    (λ c. search needs)
+    (λ c. search needs)
+    (λ c. search needs)
+    (λ c. search needs))

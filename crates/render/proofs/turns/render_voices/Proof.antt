@@ -28,7 +28,7 @@ render-voice-requires c κs =
     let room = c .before .before .before .before .before .before .before .before .before .before .before .before .before .before .before .before .before .before .before .before .pre .1 in
     let test = c .before .before .before .before .before .before .before .before .loop-test .taken in
     let g = l .inv .0 in
-    (g .playing .desk, (test, (g .playing .voices (l .k) (omega arith) test, record { row = omega (arith, l .inv .1, room .row); rows = omega (arith, l .inv .2, room .rows) })))
+    (g .playing .desk, (test, (g .playing .voices (l .k) (omega arith) test, record { rows = omega (arith, l .inv .2, room .rows) })))
 
 add-rounds : tie.Need-add-rounds Inv-loop μ-loop
 add-rounds c =
