@@ -3,6 +3,10 @@ use borrow.Author.Needs.{needs}
 use Rattle.render.proofs.render.Statement.{statement}
 use Rattle.render.proofs.render.Tie as tie
 
+-- where `render_from` has answered
+abbrev called : tie.After-slice-known12 → tie.After-render-from
+called c = c .before .before .before .before .before .before .before .before .before .before .before .before
+
 render-from-requires : tie.Need-render-from-requires
 render-from-requires c κs = c .before .before .before .before .before .before .before .before .before .before .before .before .before .pre
 
@@ -11,10 +15,10 @@ render-spec =
     tie.close
     (tie.spec
     render-from-requires
-    (λ c. search needs)
-    (λ c. search needs)
-    (λ c. search needs)
-    (λ c. search needs)
-    (λ c. search needs)
-    (λ c. search needs)
-    (λ c. search needs))
+    (λ c. called c .render-from .kept .1 .1 .1 .1 .0)
+    (λ c. called c .render-from .kept .1 .1 .1 .1 .1 .0)
+    (λ c. called c .render-from .kept .1 .1 .1 .1 .1 .1 .0)
+    (λ c. called c .render-from .kept .1 .1 .1 .1 .1 .1 .1 .0)
+    (λ c. called c .render-from .kept .1 .1 .1 .1 .1 .1 .1 .1 .0)
+    (λ c. called c .render-from .kept .1 .1 .1 .1 .1 .1 .1 .1 .1 .0)
+    (λ c. called c .render-from .ensures))

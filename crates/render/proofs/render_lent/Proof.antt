@@ -6,7 +6,8 @@ use lib.Seq.{length-take-le}
 use Rattle.state.specs.State.{State, stateOf}
 use Rattle.turn.specs.declared.Render.{Render}
 use Rattle.render.specs.Render.{Playing, renderedOn}
-use Rattle.render.specs.Rooms.{floatsFor, floats-upto, blank-rendered}
+use Rattle.render.specs.Rooms.{floatsFor}
+use Rattle.render.proofs.Fitting.{floats-upto, blank-rendered}
 use borrow.Author.Needs.{needs}
 use Rattle.render.proofs.render_lent.Statement.{statement}
 use Rattle.render.proofs.render_lent.Tie as tie

@@ -4,7 +4,7 @@ use native.Mathlib.Omega.{arith}
 use borrow.Author.Needs.{needs}
 use borrow.Fn.Kinds.{In}
 use borrow.Fn.PlainCycle.{Measures, is, falls, and}
-use Rattle.render.specs.Rooms.{floats-upto, fits-last, fits-at}
+use Rattle.render.proofs.Fitting.{floats-upto, fits-last, fits-at}
 use Rattle.render.proofs.rooms.enough.Reads as enough
 use Rattle.render.proofs.rooms.render_256.Reads as in-256
 use Rattle.render.proofs.rooms.render_2560.Reads as in-2560
@@ -54,54 +54,54 @@ pub +render-from-spec : {M : Type 1} → statement M
     let asked = c .before .before .before .before .before .before .before .before in
     let pre = asked .before .before .before .before .before .before .before .before .before .before .pre .1 in
     (pre .0, (pre .1, fits-at (c .before .before .before .before .before .before .if2 .taken) (asked .enough .ensures .0 (c .before .before .before .before .before .before .before .if1 .taken)))))
-    (λ c. search needs)
-    (λ c. search needs)
-    (λ c. search needs)
-    (λ c. search needs)
-    (λ c. search needs)
-    (λ c. search needs)
-    (λ c. search needs)
+    (λ c. c .before .before .before .before .before .before .before .before .before .before .before .before .render-256 .kept .1 .1 .1 .0)
+    (λ c. c .before .before .before .before .before .before .before .before .before .before .before .before .render-256 .kept .1 .1 .1 .1 .0)
+    (λ c. c .before .before .before .before .before .before .before .before .before .before .before .before .render-256 .kept .1 .1 .1 .1 .1 .0)
+    (λ c. c .before .before .before .before .before .before .before .before .before .before .before .before .render-256 .kept .1 .1 .1 .1 .1 .1 .0)
+    (λ c. c .before .before .before .before .before .before .before .before .before .before .before .before .render-256 .kept .1 .1 .1 .1 .1 .1 .1 .0)
+    (λ c. c .before .before .before .before .before .before .before .before .before .before .before .before .render-256 .kept .1 .1 .1 .1 .1 .1 .1 .1 .0)
+    (λ c. c .before .before .before .before .before .before .before .before .before .before .before .before .render-256 .ensures)
     (λ c κs.
     let asked = c .before .before .before .before .before .before .before .before .before in
     let pre = asked .before .before .before .before .before .before .before .before .before .before .pre .1 in
     (pre .0, (pre .1, fits-at (c .before .before .before .before .before .before .if3 .taken) (asked .enough .ensures .0 (c .before .before .before .before .before .before .before .before .if1 .taken)))))
-    (λ c. search needs)
-    (λ c. search needs)
-    (λ c. search needs)
-    (λ c. search needs)
-    (λ c. search needs)
-    (λ c. search needs)
-    (λ c. search needs)
+    (λ c. c .before .before .before .before .before .before .before .before .before .before .before .before .render-2560 .kept .1 .1 .1 .0)
+    (λ c. c .before .before .before .before .before .before .before .before .before .before .before .before .render-2560 .kept .1 .1 .1 .1 .0)
+    (λ c. c .before .before .before .before .before .before .before .before .before .before .before .before .render-2560 .kept .1 .1 .1 .1 .1 .0)
+    (λ c. c .before .before .before .before .before .before .before .before .before .before .before .before .render-2560 .kept .1 .1 .1 .1 .1 .1 .0)
+    (λ c. c .before .before .before .before .before .before .before .before .before .before .before .before .render-2560 .kept .1 .1 .1 .1 .1 .1 .1 .0)
+    (λ c. c .before .before .before .before .before .before .before .before .before .before .before .before .render-2560 .kept .1 .1 .1 .1 .1 .1 .1 .1 .0)
+    (λ c. c .before .before .before .before .before .before .before .before .before .before .before .before .render-2560 .ensures)
     (λ c κs.
     let asked = c .before .before .before .before .before .before .before .before .before .before in
     let pre = asked .before .before .before .before .before .before .before .before .before .before .pre .1 in
     (pre .0, (pre .1, fits-at (c .before .before .before .before .before .before .if4 .taken) (asked .enough .ensures .0 (c .before .before .before .before .before .before .before .before .before .if1 .taken)))))
-    (λ c. search needs)
-    (λ c. search needs)
-    (λ c. search needs)
-    (λ c. search needs)
-    (λ c. search needs)
-    (λ c. search needs)
-    (λ c. search needs)
+    (λ c. c .before .before .before .before .before .before .before .before .before .before .before .before .render-6144 .kept .1 .1 .1 .0)
+    (λ c. c .before .before .before .before .before .before .before .before .before .before .before .before .render-6144 .kept .1 .1 .1 .1 .0)
+    (λ c. c .before .before .before .before .before .before .before .before .before .before .before .before .render-6144 .kept .1 .1 .1 .1 .1 .0)
+    (λ c. c .before .before .before .before .before .before .before .before .before .before .before .before .render-6144 .kept .1 .1 .1 .1 .1 .1 .0)
+    (λ c. c .before .before .before .before .before .before .before .before .before .before .before .before .render-6144 .kept .1 .1 .1 .1 .1 .1 .1 .0)
+    (λ c. c .before .before .before .before .before .before .before .before .before .before .before .before .render-6144 .kept .1 .1 .1 .1 .1 .1 .1 .1 .0)
+    (λ c. c .before .before .before .before .before .before .before .before .before .before .before .before .render-6144 .ensures)
     (λ c κs.
     let asked = c .before .before .before .before .before .before .before .before .before .before in
     let pre = asked .before .before .before .before .before .before .before .before .before .before .pre .1 in
     (pre .0, (pre .1, fits-last (pre .0))))
-    (λ c. search needs)
-    (λ c. search needs)
-    (λ c. search needs)
-    (λ c. search needs)
-    (λ c. search needs)
-    (λ c. search needs)
-    (λ c. search needs)
+    (λ c. c .before .before .before .before .before .before .before .before .before .before .before .before .render-24576 .kept .1 .1 .1 .0)
+    (λ c. c .before .before .before .before .before .before .before .before .before .before .before .before .render-24576 .kept .1 .1 .1 .1 .0)
+    (λ c. c .before .before .before .before .before .before .before .before .before .before .before .before .render-24576 .kept .1 .1 .1 .1 .1 .0)
+    (λ c. c .before .before .before .before .before .before .before .before .before .before .before .before .render-24576 .kept .1 .1 .1 .1 .1 .1 .0)
+    (λ c. c .before .before .before .before .before .before .before .before .before .before .before .before .render-24576 .kept .1 .1 .1 .1 .1 .1 .1 .0)
+    (λ c. c .before .before .before .before .before .before .before .before .before .before .before .before .render-24576 .kept .1 .1 .1 .1 .1 .1 .1 .1 .0)
+    (λ c. c .before .before .before .before .before .before .before .before .before .before .before .before .render-24576 .ensures)
     (λ c. omega (arith, c .before .enough .ensures .1 (c .if1 .left)))
     (λ c κs.
     let start = c .before .before .before .before .before .before .before .before .before .before .before .before .before .before .before .before .before in
     (omega (arith, start .pre .0, c .before .before .before .before .before .before .before .enough .ensures .1 (c .before .before .before .before .before .before .if1 .left)), start .pre .1))
-    (λ c. search needs)
-    (λ c. search needs)
-    (λ c. search needs)
-    (λ c. search needs)
-    (λ c. search needs)
-    (λ c. search needs)
-    (λ c. search needs))
+    (λ c. c .before .before .before .before .before .before .before .before .before .before .before .before .render-from .kept .1 .1 .1 .1 .0)
+    (λ c. c .before .before .before .before .before .before .before .before .before .before .before .before .render-from .kept .1 .1 .1 .1 .1 .0)
+    (λ c. c .before .before .before .before .before .before .before .before .before .before .before .before .render-from .kept .1 .1 .1 .1 .1 .1 .0)
+    (λ c. c .before .before .before .before .before .before .before .before .before .before .before .before .render-from .kept .1 .1 .1 .1 .1 .1 .1 .0)
+    (λ c. c .before .before .before .before .before .before .before .before .before .before .before .before .render-from .kept .1 .1 .1 .1 .1 .1 .1 .1 .0)
+    (λ c. c .before .before .before .before .before .before .before .before .before .before .before .before .render-from .kept .1 .1 .1 .1 .1 .1 .1 .1 .1 .0)
+    (λ c. c .before .before .before .before .before .before .before .before .before .before .before .before .render-from .ensures))

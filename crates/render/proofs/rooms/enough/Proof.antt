@@ -3,7 +3,7 @@ use mathlib.Core.Path.{sym, subst}
 use mathlib.Core.Bool.{true≢false}
 use Prim.Native.Nat.{ℕ, _<_}
 use native.Mathlib.Omega.{arith}
-use Rattle.render.specs.Rooms.{floats-few, samples-few}
+use Rattle.render.proofs.Fitting.{floats-few, samples-few}
 use borrow.Author.Needs.{needs}
 use Rattle.render.proofs.rooms.enough.Statement.{statement}
 use Rattle.render.proofs.rooms.enough.Tie as tie

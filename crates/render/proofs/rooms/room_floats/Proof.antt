@@ -1,6 +1,7 @@
 -- `render::rooms::room_floats` meets its contract: by the number of the room. Assumes nothing.
 use mathlib.Core.Path.{sym, ap}
-use Rattle.render.specs.Rooms.{roomFloats, last-floats}
+use Rattle.render.specs.Rooms.{roomFloats}
+use Rattle.render.proofs.Fitting.{last-floats}
 use borrow.Author.Needs.{needs}
 use Rattle.render.proofs.rooms.room_floats.Statement.{statement}
 use Rattle.render.proofs.rooms.room_floats.Tie as tie

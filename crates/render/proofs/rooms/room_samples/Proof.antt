@@ -1,6 +1,7 @@
 -- `render::rooms::room_samples` meets its contract: by the number of the room. Assumes nothing.
 use mathlib.Core.Path.{sym, ap}
-use Rattle.render.specs.Rooms.{roomSamples, later-samples}
+use Rattle.render.specs.Rooms.{roomSamples}
+use Rattle.render.proofs.Fitting.{later-samples}
 use borrow.Author.Needs.{needs}
 use Rattle.render.proofs.rooms.room_samples.Statement.{statement}
 use Rattle.render.proofs.rooms.room_samples.Tie as tie
