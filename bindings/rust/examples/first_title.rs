@@ -1,5 +1,5 @@
-//! A first title: it plays a clip of 16-bit samples and scores a press against the position that the renderer tells. docs/FORMATS.md has the
-//! offsets of each record.
+//! A first title: it plays a clip of 16-bit samples and scores a press against the position that the renderer tells.
+//! docs/FORMATS.md has the offsets of each record.
 //!
 //!     cargo run --example first_title
 use jeqlluna::{Parameters, Refusal, Renderer, revision};
@@ -37,8 +37,8 @@ fn update(new: bool) -> Vec<u8> {
 
 fn main() -> Result<(), Refusal> {
     let clip: Vec<u8> = (0..CLIP).flat_map(|k| [0, if k % 96 < 48 { 0x20 } else { 0xe0 }]).collect(); // 500 Hz
-    let counts = Parameters { sample_rate: RATE, samples: SAMPLES, mix_buffers: 2, voices: 1, sinks: 1, revision: revision(5), ..Parameters::default() };
-    let mut renderer = Renderer::open(&counts)?;
+    let counts = Parameters { sample_rate: RATE, samples: SAMPLES, mix_buffers: 2, voices: 1, sinks: 1, ..Parameters::default() };
+    let mut renderer = Renderer::open(&Parameters { revision: revision(5), ..counts })?;
     let mut frames = [0.0; 2 * SAMPLES as usize];
     for render in 0..6 {
         renderer.update(0, &update(render == 0), 1024)?;
