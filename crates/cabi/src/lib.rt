@@ -2,6 +2,7 @@
 // include/jeqlluna.h declares them.
 mod answers;
 mod decode;
+mod dsp;
 
 pub use answers::JeqllunaLength;
 pub use answers::JeqllunaLengths;
@@ -11,6 +12,11 @@ pub use answers::JeqllunaUpdate;
 pub use decode::JeqllunaContext;
 pub use decode::JeqllunaDecoded;
 pub use decode::jeqlluna_decode_adpcm;
+pub use dsp::JeqllunaDsp;
+pub use dsp::JeqllunaDspRead;
+pub use dsp::JeqllunaDspWritten;
+pub use dsp::jeqlluna_read_dsp;
+pub use dsp::jeqlluna_write_dsp;
 ghost use mathlib.Core.Path.{_≡_};
 ghost use Rattle.params.specs.Params.{parseOf};
 ghost use Rattle.state.specs.State.{stateOf};

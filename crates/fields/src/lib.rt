@@ -9,7 +9,7 @@ ghost use lib.Dec.{leb};
 ghost use lib.Ieee as Ieee;
 ghost use lib.Ieee.{binary32};
 ghost use lib.ListN.{length};
-ghost use mir.Val.{toZ};
+ghost use mir.Val.{toZ, ofZ};
 ghost use mir.Syntax.{w16, w32};
 ghost use Rattle.fields.specs.Fields.{le, fieldAt, flagAt, sectionOf, restOf, bytesOf};
 ghost use Rattle.rows.specs.Rows.{put};
@@ -62,6 +62,17 @@ pub fn signed16(v: u16) -> i16
         v as i16
     } else {
         -1 - ((0xffff - v) as i16)
+    }
+}
+
+// The 16 bits of a signed number.
+pub fn bits16(x: i16) -> u16
+    ensures { λ r. ⌜ r ≡ ofZ w16 x ⌝ }
+{
+    if x >= 0 {
+        x as u16
+    } else {
+        0xffff - ((-1 - x) as u16)
     }
 }
 

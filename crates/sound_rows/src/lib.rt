@@ -2,25 +2,13 @@
 ghost use mathlib.Core.Path.{_≡_};
 ghost use Prim.Native.Nat.{_+_, _≤_};
 ghost use lib.ListN.{length};
-ghost use mir.Val.{ofZ};
-ghost use mir.Syntax.{w16};
 ghost use Rattle.rows.specs.Rows.{put};
 ghost use Rattle.sound_rows.specs.SoundRow.{wordsOfContext, soundOf, contextsOf, historyOf};
 use adpcm::AdpcmContext;
+use fields::bits16;
 use fields::signed16;
 use voice::History;
 use voice::Sound;
-
-// The 16 bits of a signed number.
-fn bits16(x: i16) -> u16
-    ensures { λ r. ⌜ r ≡ ofZ w16 x ⌝ }
-{
-    if x >= 0 {
-        x as u16
-    } else {
-        0xffff - ((-1 - x) as u16)
-    }
-}
 
 // The sound in the first 3 contexts and 18 floats.
 pub fn load_sound(contexts: &[u16], history: &[f32]) -> Sound

@@ -1,5 +1,5 @@
 -- A signed number of 16 bits and its bits. Assumes nothing.
-use Prim.Native.Nat.{ℕ, zero, suc, _-_, _^_, _<_, _≤_}
+use Prim.Native.Nat.{ℕ, suc, _-_, _≤_}
 use mathlib.Core.Bool.{true, false}
 use mathlib.Core.Path.{_≡_, refl, sym, ap, subst, _∙_}
 use native.Mathlib.Omega.{arith}
@@ -10,14 +10,6 @@ use lib.Signed.{leZ, nonNeg}
 use mir.Syntax.{w16}
 use mir.Val.{Fits, SFits, toZ, ofZ}
 use mir.Facts.{toZ-ofZ}
-
--- -1 - m
-pub below-zero : (m : ℕ) → negsuc 0 -ℤ pos m ≡ negsuc m
-below-zero zero = refl
-below-zero (suc m) = ap negsuc (omega arith)
-
-pub low-fits : (m : ℕ) → m < 2 ^ 15 → SFits w16 (negsuc m)
-low-fits m h = record { sfits = h }
 
 -- ---- a number that is not below zero is its own bits
 

@@ -1,9 +1,9 @@
--- `clip_main::print_samples` stays within s and ends. Assumes nothing.
+-- `sample_lines::print_samples` stays within s and ends. Assumes nothing.
 use Prim.Native.Nat.{_-_, _≤_}
 use lib.ListN.{length}
 use borrow.Author.Needs.{needs}
-use Rattle.clip_main.proofs.print_samples.Statement.{statement}
-use Rattle.clip_main.proofs.print_samples.Tie as tie
+use Rattle.sample_lines.proofs.print_samples.Statement.{statement}
+use Rattle.sample_lines.proofs.print_samples.Tie as tie
 
 abbrev Inv-loop : tie.InvT-loop
 Inv-loop s n k₀ k = k ≤ length s

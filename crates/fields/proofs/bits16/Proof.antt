@@ -1,4 +1,4 @@
--- `sound_rows::bits16` meets its contract: what is not below zero is its own bits, and -1 - x has the other bits of x. Assumes nothing.
+-- `fields::bits16` meets its contract: what is not below zero is its own bits, and -1 - x has the other bits of x. Assumes nothing.
 use Prim.Native.Nat.{_-_, _≤_}
 use mathlib.Core.Bool.{true, false}
 use mathlib.Core.Path.{_≡_, sym, ap, subst, _∙_}
@@ -8,9 +8,9 @@ use lib.Signed.{leZ, nonNeg}
 use mir.Syntax.{w16}
 use mir.Val.{Fits}
 use mir.Facts.{toZ-ofZ}
-use Rattle.sound_rows.proofs.Signed.{up-cast, up-bits, down-fits, flipped-is, down-cast, down-below, down-bits}
-use Rattle.sound_rows.proofs.bits16.Statement.{statement}
-use Rattle.sound_rows.proofs.bits16.Tie as tie
+use Rattle.fields.proofs.Bits.{up-cast, up-bits, down-fits, flipped-is, down-cast, down-below, down-bits}
+use Rattle.fields.proofs.bits16.Statement.{statement}
+use Rattle.fields.proofs.bits16.Tie as tie
 
 not-below : (c : tie.Then1) → leZ (pos 0) (c .before .args .x) ≡ true
 not-below c = ap (leZ (pos 0)) (sym (toZ-ofZ (c .before .fits .x))) ∙ c .if1 .taken
