@@ -1,61 +1,40 @@
-/* A first title: it plays a clip of 16-bit samples and scores a press against the position that the renderer tells.
- *
- *     cc -std=c99 -Iinclude -o target/first_title examples/first_title.c target/staticlib/libcabi.a && target/first_title */
+/* A first title: it plays a clip of 16-bit samples and scores a press against the position that the renderer tells. */
 #include <stdio.h>
 #include "jeqlluna.h"
 #include "jeqlluna_title.h"
-
 enum { BASE = 0x10000, RATE = 48000, SAMPLES = 240, CLIP = 4800, BEAT = 1200, WINDOW = 480 };
-enum { ONE = 0x3f800000, REV5 = 0x35564552 }; /* the bits of 1.0; the characters REV5 */
-enum { GAINS = JEQLLUNA_UPDATE_HEADER_SIZE, VOICE = GAINS + JEQLLUNA_CHANNEL_RESOURCE_SIZE, WAVE = VOICE + JEQLLUNA_VOICE_WAVES,
-       MIX = VOICE + JEQLLUNA_VOICE_SIZE, SINK = MIX + JEQLLUNA_MIX_SIZE, END = SINK + JEQLLUNA_SINK_SIZE };
-
-typedef struct { int at, bytes; uint32_t value; } Field;
-static const Field OPEN[] = {
-    {JEQLLUNA_PARAMETERS_SAMPLE_RATE, 4, RATE}, {JEQLLUNA_PARAMETERS_SAMPLE_COUNT, 4, SAMPLES}, {JEQLLUNA_PARAMETERS_MIX_BUFFERS, 4, 2},
-    {JEQLLUNA_PARAMETERS_VOICES, 4, 1}, {JEQLLUNA_PARAMETERS_SINKS, 4, 1}, {JEQLLUNA_PARAMETERS_REVISION, 4, REV5}, {0, 0, 0}};
-static const Field UPDATE[] = {
-    {JEQLLUNA_UPDATE_HEADER_CHANNEL_RESOURCES_SIZE, 4, JEQLLUNA_CHANNEL_RESOURCE_SIZE},
-    {JEQLLUNA_UPDATE_HEADER_VOICES_SIZE, 4, JEQLLUNA_VOICE_SIZE}, {JEQLLUNA_UPDATE_HEADER_MIXES_SIZE, 4, JEQLLUNA_MIX_SIZE},
-    {JEQLLUNA_UPDATE_HEADER_SINKS_SIZE, 4, JEQLLUNA_SINK_SIZE},
-    {GAINS + JEQLLUNA_CHANNEL_RESOURCE_GAINS, 4, ONE}, {GAINS + JEQLLUNA_CHANNEL_RESOURCE_GAINS + 4, 4, ONE}, /* to both buffers of mix 0 */
-    {VOICE + JEQLLUNA_VOICE_IS_NEW, 1, 1}, {VOICE + JEQLLUNA_VOICE_IN_USE, 1, 1},
-    {VOICE + JEQLLUNA_VOICE_FORMAT, 1, JEQLLUNA_VOICE_FORMAT_PCM_INT16},
-    {VOICE + JEQLLUNA_VOICE_SAMPLE_RATE, 4, RATE}, {VOICE + JEQLLUNA_VOICE_CHANNELS, 4, 1}, {VOICE + JEQLLUNA_VOICE_PITCH, 4, ONE},
-    {VOICE + JEQLLUNA_VOICE_VOLUME, 4, ONE}, {VOICE + JEQLLUNA_VOICE_QUEUED, 4, 1}, {WAVE + JEQLLUNA_WAVE_ADDRESS, 4, BASE},
-    {WAVE + JEQLLUNA_WAVE_DATA_SIZE, 4, 2 * CLIP}, {WAVE + JEQLLUNA_WAVE_END, 4, CLIP}, {MIX + JEQLLUNA_MIX_VOLUME, 4, ONE},
-    {MIX + JEQLLUNA_MIX_BUFFER_COUNT, 4, 2}, {MIX + JEQLLUNA_MIX_IN_USE, 1, 1}, {SINK + JEQLLUNA_SINK_KIND, 1, JEQLLUNA_SINK_KIND_DEVICE},
-    {SINK + JEQLLUNA_SINK_IN_USE, 1, 1}, {SINK + JEQLLUNA_SINK_INPUT_COUNT, 4, 2}, {SINK + JEQLLUNA_SINK_INPUTS + 1, 1, 1}, {0, 0, 0}};
-
-static void put(uint8_t *block, const Field *f) {
-    for (; f->bytes; f++)
-        for (int k = 0; k < f->bytes; k++) block[f->at + k] = (uint8_t)(f->value >> 8 * k);
-}
-
-static uint32_t words[100];
-static uint64_t longs[20];
-static float floats[700], history[20], frames[2 * SAMPLES];
-static uint16_t contexts[4];
-static uint8_t parameters[JEQLLUNA_PARAMETERS], input[END], clip[2 * CLIP], reply[1024];
-#define STATE words, n.words, longs, n.longs, floats, n.floats, contexts, n.contexts, history, n.history
+enum { ONE = 0x3f800000, REV5 = 0x35564552, SENT = 1 << 16, DEVICE = 0x0101, GOES_ON = 0x02000100, NEW }; /* words */
+enum { WORDS = 83, LONGS = 15, FLOATS = 633, CONTEXTS = 3, HISTORY = 18 }; /* what jeqlluna_lengths says */
+enum { PARAMETERS, UPDATE_HEADER = 0, CHANNEL_RESOURCE = JEQLLUNA_UPDATE_HEADER_SIZE, /* where the records stand */
+       VOICE = CHANNEL_RESOURCE + JEQLLUNA_CHANNEL_RESOURCE_SIZE, WAVE = VOICE + JEQLLUNA_VOICE_WAVES,
+       MIX = VOICE + JEQLLUNA_VOICE_SIZE, SINK = MIX + JEQLLUNA_MIX_SIZE, INPUT = SINK + JEQLLUNA_SINK_SIZE };
+#define AT(record, field) [(record + JEQLLUNA_##record##_##field) / 4] /* the 32-bit word that holds a record's field */
+static const uint32_t parameters[JEQLLUNA_PARAMETERS / 4] = {
+    AT(PARAMETERS, SAMPLE_RATE) = RATE, AT(PARAMETERS, SAMPLE_COUNT) = SAMPLES, AT(PARAMETERS, MIX_BUFFERS) = 1,
+    AT(PARAMETERS, VOICES) = 1, AT(PARAMETERS, SINKS) = 1, AT(PARAMETERS, REVISION) = REV5};
+static uint32_t words[WORDS], input[INPUT / 4] = {
+    AT(UPDATE_HEADER, CHANNEL_RESOURCES_SIZE) = JEQLLUNA_CHANNEL_RESOURCE_SIZE, AT(CHANNEL_RESOURCE, GAINS) = ONE,
+    AT(UPDATE_HEADER, VOICES_SIZE) = JEQLLUNA_VOICE_SIZE, AT(UPDATE_HEADER, MIXES_SIZE) = JEQLLUNA_MIX_SIZE,
+    AT(UPDATE_HEADER, SINKS_SIZE) = JEQLLUNA_SINK_SIZE, AT(VOICE, SAMPLE_RATE) = RATE, AT(VOICE, PITCH) = ONE,
+    AT(VOICE, VOLUME) = ONE, AT(VOICE, QUEUED) = 1, AT(WAVE, ADDRESS) = BASE, AT(WAVE, DATA_SIZE) = 2 * CLIP,
+    AT(WAVE, END) = CLIP, AT(WAVE, SENT_BEFORE + 1 * JEQLLUNA_WAVE_SIZE) = SENT, AT(MIX, VOLUME) = ONE,
+    AT(WAVE, SENT_BEFORE + 2 * JEQLLUNA_WAVE_SIZE) = SENT, AT(WAVE, SENT_BEFORE + 3 * JEQLLUNA_WAVE_SIZE) = SENT,
+    AT(MIX, BUFFER_COUNT) = 1, AT(MIX, IN_USE) = 1, AT(SINK, KIND) = DEVICE, AT(SINK, INPUT_COUNT) = 1};
+static uint64_t longs[LONGS], reply[128];
+static uint16_t contexts[CONTEXTS], clip[CLIP] = {[BEAT] = 20000}; /* a click on the beat */
+static float floats[FLOATS], history[HISTORY], frames[2 * SAMPLES];
+#define STATE words, WORDS, longs, LONGS, floats, FLOATS, contexts, CONTEXTS, history, HISTORY
 
 int main(void) {
-    for (int k = 0; k < CLIP; k++) clip[2 * k + 1] = k % 96 < 48 ? 0x20 : 0xe0; /* 500 Hz */
-    for (int slot = 1; slot < 4; slot++) input[WAVE + slot * JEQLLUNA_WAVE_SIZE + JEQLLUNA_WAVE_SENT_BEFORE] = 1; /* only slot 0 is sent */
-    put(parameters, OPEN), put(input, UPDATE);
-    JeqllunaLengths n = jeqlluna_lengths(parameters, sizeof parameters);
-    uint32_t number = n.number ? n.number : jeqlluna_open(parameters, sizeof parameters, STATE);
-    for (int render = 0; render <= 6 && !number; render++) {
-        JeqllunaUpdate u = jeqlluna_update(STATE, 0, input, sizeof input, reply, sizeof reply);
-        input[VOICE + JEQLLUNA_VOICE_IS_NEW] = 0, input[WAVE + JEQLLUNA_WAVE_SENT_BEFORE] = 1; /* from now on it plays what it has */
-        if (render == 6 && !u.number) break; /* the press */
-        JeqllunaRender r = jeqlluna_render(STATE, BASE, clip, sizeof clip, frames, 2 * SAMPLES);
-        number = u.number ? u.number : r.number;
+    uint32_t error = jeqlluna_open((const uint8_t *)parameters, sizeof parameters, STATE);
+    for (int turn = 0; turn <= 6 && !error; turn++) { /* the press comes after six renders */
+        input AT(VOICE, IS_NEW) = turn == 0 ? NEW : GOES_ON;
+        input AT(WAVE, SENT_BEFORE) = turn == 0 ? 0 : SENT;
+        error = jeqlluna_update(STATE, 0, (uint8_t *)input, sizeof input, (uint8_t *)reply, sizeof reply).number;
+        error = error ? error : jeqlluna_render(STATE, BASE, (uint8_t *)clip, sizeof clip, frames, 2 * SAMPLES).number;
     }
-    if (number) return printf("refused: %s\n", jeqlluna_refusal(number)), 1;
-    const uint8_t *voice = reply + JEQLLUNA_REPLY_HEADER_SIZE + 4 * JEQLLUNA_REPLY_POOL_SIZE; /* four pools come before it */
-    int played = voice[JEQLLUNA_REPLY_VOICE_PLAYED] + 256 * voice[JEQLLUNA_REPLY_VOICE_PLAYED + 1], off = played - 3 - BEAT;
+    if (error) return printf("refused: %s\n", jeqlluna_refusal(error));
+    int played = (int)reply[(JEQLLUNA_REPLY_HEADER_SIZE + 4 * JEQLLUNA_REPLY_POOL_SIZE) / 8], off = played - 3 - BEAT;
     printf("played %d, heard up to sample %d, ", played, played - 3);
     printf("off the beat by %d: %s\n", off, off > -WINDOW && off < WINDOW ? "hit" : "miss");
-    return 0;
 }

@@ -1,54 +1,40 @@
 //! A first title: it plays a clip of 16-bit samples and scores a press against the position that the renderer tells.
-//! docs/FORMATS.md has the offsets of each record.
-//!
-//!     cargo run --example first_title
 use jeqlluna::{Parameters, Refusal, Renderer, revision};
-
-const BASE: u32 = 0x10000;
-const RATE: u32 = 48000;
-const SAMPLES: u32 = 240;
-const CLIP: u32 = 4800;
+const BASE: u32 = 0x10000; // where the clip stands
 const BEAT: i64 = 1200;
-const WINDOW: i64 = 480;
+const ONE: u32 = 1f32.to_bits();
+const SENT: u32 = 1 << 16; // of a wave: it was sent before
 
-/// A record of so many bytes, with 32-bit numbers at their offsets.
+/// A record of so many bytes, with 32-bit numbers at their offsets (docs/FORMATS.md).
 fn record(size: usize, fields: &[(usize, u32)]) -> Vec<u8> {
     let mut bytes = vec![0; size];
-    for &(at, value) in fields {
-        bytes[at..at + 4].copy_from_slice(&value.to_le_bytes());
-    }
+    fields.iter().for_each(|&(at, value)| bytes[at..at + 4].copy_from_slice(&value.to_le_bytes()));
     bytes
 }
 
-/// The title's update; `new` starts the clip.
-fn update(new: bool) -> Vec<u8> {
-    let one = 1f32.to_bits();
-    let sent = 1 << 16; // byte 0x1a of a wave buffer: it was sent before
+/// The title's update: a voice in use, started, that plays 16-bit samples of so many bytes, and is new or goes on.
+fn update(new: bool, bytes: u32) -> Vec<u8> {
+    let (play, sent) = if new { (0x0200_0101, 0) } else { (0x0200_0100, SENT) };
     let header = record(0x40, &[(0x0c, 0x170), (0x10, 0x70), (0x18, 0x930), (0x1c, 0x140)]);
-    let gains = record(0x70, &[(0x04, one), (0x08, one)]); // to both buffers of mix 0
-    let play = u32::from_le_bytes([u8::from(new), 1, 0, 2]); // new, in use, started, 16-bit PCM
-    let voice = record(0x60, &[(0x08, play), (0x0c, RATE), (0x18, 1), (0x1c, one), (0x20, one), (0x3c, 1), (0x5c, u32::MAX)]);
-    let wave = record(0x38, &[(0x00, BASE), (0x08, 2 * CLIP), (0x14, CLIP), (0x18, if new { 0 } else { sent })]);
-    let empty = record(0x38, &[(0x18, sent)]);
-    let mix = record(0x930, &[(0x00, one), (0x08, 2), (0x0c, 1), (0x924, 0x7fff_ffff), (0x928, u32::MAX)]);
-    let sink = record(0x140, &[(0x00, 0x0101), (0x120, 2), (0x124, 0x0100)]); // a device in use, inputs 0 and 1
-    [header, gains, voice, wave, empty.clone(), empty.clone(), empty, record(0x30, &[]), mix, sink].concat()
+    let voice = record(0x60, &[(0x08, play), (0x0c, 48000), (0x1c, ONE), (0x20, ONE), (0x3c, 1)]);
+    let wave = [(0x00, BASE), (0x08, bytes), (0x14, bytes / 2), (0x18, sent), (0x50, SENT), (0x88, SENT), (0xc0, SENT)];
+    let mix = record(0x930, &[(0x00, ONE), (0x08, 1), (0x0c, 1)]);
+    let (gains, sink) = (record(0x70, &[(0x04, ONE)]), record(0x140, &[(0x00, 0x0101), (0x120, 1)]));
+    [header, gains, voice, record(0x110, &wave), mix, sink].concat()
 }
 
 fn main() -> Result<(), Refusal> {
-    let clip: Vec<u8> = (0..CLIP).flat_map(|k| [0, if k % 96 < 48 { 0x20 } else { 0xe0 }]).collect(); // 500 Hz
-    let counts = Parameters { sample_rate: RATE, samples: SAMPLES, mix_buffers: 2, voices: 1, sinks: 1, ..Parameters::default() };
-    let mut renderer = Renderer::open(&Parameters { revision: revision(5), ..counts })?;
-    let mut frames = [0.0; 2 * SAMPLES as usize];
-    for render in 0..6 {
-        renderer.update(0, &update(render == 0), 1024)?;
-        renderer.render(BASE.into(), &clip, &mut frames)?;
+    let counts = Parameters { mix_buffers: 1, voices: 1, sinks: 1, revision: revision(5), ..Parameters::default() };
+    let mut renderer = Renderer::open(&Parameters { sample_rate: 48000, samples: 240, ..counts })?;
+    let clip: Vec<u8> = (0..4800).flat_map(|k| if k == BEAT { [0, 0x4e] } else { [0, 0] }).collect(); // a click
+    for turn in 0..6 {
+        renderer.update(0, &update(turn == 0, clip.len() as u32), 1024)?;
+        renderer.render(BASE.into(), &clip, &mut [0.0; 480])?;
     }
-    // The press: the voice's position stands behind the reply's header and four pools.
-    let reply = renderer.update(0, &update(false), 1024)?;
-    let played = i64::from_le_bytes(reply[0x80..0x88].try_into().expect("eight bytes"));
+    let reply = renderer.update(0, &update(false, clip.len() as u32), 1024)?; // the press
+    let played = i64::from_le_bytes(reply[0x80..0x88].try_into().expect("8 bytes behind the header and four pools"));
     let off = played - 3 - BEAT;
     print!("played {played}, heard up to sample {}, ", played - 3);
-    println!("off the beat by {off}: {}", if off.abs() < WINDOW { "hit" } else { "miss" });
+    println!("off the beat by {off}: {}", if off.abs() < 480 { "hit" } else { "miss" });
     Ok(())
 }
