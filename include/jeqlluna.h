@@ -25,9 +25,9 @@
 extern "C" {
 #endif
 
-#define JEQLLUNA_VERSION "0.2.0"
+#define JEQLLUNA_VERSION "0.3.0"
 #define JEQLLUNA_VERSION_MAJOR 0
-#define JEQLLUNA_VERSION_MINOR 2
+#define JEQLLUNA_VERSION_MINOR 3
 #define JEQLLUNA_VERSION_PATCH 0
 
 /* The bytes of stack that a call takes at most; measured, and held to by bindings/stack. */
@@ -43,7 +43,10 @@ enum {
     JEQLLUNA_REPLY = 6,   /* the reply slice is too short */
     JEQLLUNA_FRAMES = 7,  /* the frame slice is shorter than 2 * samples */
     JEQLLUNA_START = 8,   /* ADPCM: the start is above 2^60 */
-    JEQLLUNA_OUTPUT = 9   /* ADPCM: the output is shorter than count */
+    JEQLLUNA_OUTPUT = 9,  /* ADPCM: the output is shorter than count */
+    /* 10 is the session program's and no answer of the library */
+    JEQLLUNA_DSP_HEADER = 11, /* DSP file: fewer than 96 bytes, or format, gain or padding is not 0 */
+    JEQLLUNA_DSP_LENGTH = 12  /* DSP file: the data is too short for its samples, or the output for the file */
 };
 
 /* What a number says, in words. Never NULL. */
@@ -69,6 +72,10 @@ static inline const char *jeqlluna_refusal(uint32_t number) {
         return "the start of an ADPCM decode is above 2^60";
     case JEQLLUNA_OUTPUT:
         return "the output of an ADPCM decode is shorter than the count";
+    case JEQLLUNA_DSP_HEADER:
+        return "a DSP file has no whole header, or format, gain or padding is not 0";
+    case JEQLLUNA_DSP_LENGTH:
+        return "the data of a DSP file is too short for its samples, or the output for the file";
     default:
         return "an unknown number";
     }
@@ -117,6 +124,27 @@ typedef struct {
     JeqllunaContext context;
 } JeqllunaDecoded;
 
+/* The values of a DSP file's header, in the file's sequence; padding is none of them. */
+typedef struct {
+    uint32_t samples, nibbles, rate;
+    uint16_t loop_flag, format; /* format: 0 */
+    uint32_t loop_start, loop_end, address;
+    int16_t coefficients[16]; /* eight pairs, as jeqlluna_decode_adpcm takes them */
+    uint16_t gain;            /* 0 */
+    JeqllunaContext start_context, loop_context; /* to decode with from the first sample on, and from the loop's start on */
+} JeqllunaDsp;
+
+typedef struct {
+    uint32_t number;
+    JeqllunaDsp header;
+    size_t data, data_len; /* where the data begins in the file, 96, and its bytes: all up to the file's end */
+} JeqllunaDspRead;
+
+typedef struct {
+    uint32_t number;
+    size_t size; /* bytes written: 96 + data_len */
+} JeqllunaDspWritten;
+
 /* How long the five slices of a renderer must be. Refusals: 1, 2. */
 JeqllunaLengths jeqlluna_lengths(const uint8_t *parameters, size_t parameters_len);
 
@@ -154,6 +182,15 @@ JeqllunaOrder jeqlluna_mix_order(
 JeqllunaDecoded jeqlluna_decode_adpcm(
     const uint8_t *data, size_t data_len, uint64_t start, size_t count, const int16_t *coefficients, size_t coefficients_len,
     JeqllunaContext context, float *output, size_t output_len);
+
+/* Reads a DSP file: its header, 96 bytes, big-endian, and where its data stands. Samples take 8 bytes for each 14 of them; of the rest, if
+ * there is any, a byte for its header and one for each two or a last one alone. The data has as many bytes or more. Other values than
+ * samples, format and gain may be any. Refusals: 11, 12. */
+JeqllunaDspRead jeqlluna_read_dsp(const uint8_t *file, size_t file_len);
+
+/* Writes a DSP file to the front of output: the header with 22 bytes of 0 for padding, and all of the data. Bytes beyond them stay. A file
+ * that was read and is written again has the same bytes. Refusals: 11 (of format and gain alone), 12. */
+JeqllunaDspWritten jeqlluna_write_dsp(JeqllunaDsp header, const uint8_t *data, size_t data_len, uint8_t *output, size_t output_len);
 
 #ifdef __cplusplus
 }

@@ -16,6 +16,8 @@
 //! # Ok::<(), jeqlluna::Refusal>(())
 //! ```
 //!
+//! [`decode_adpcm`], [`read_dsp`] and [`write_dsp`] need no renderer: ADPCM alone, and clips as DSP files.
+//!
 //! # Memory
 //!
 //! A renderer holds at most [`MOST_HELD`] bytes, whatever its parameters. A reply is as long as a title's numbers make it, so
@@ -31,6 +33,7 @@
 extern crate alloc;
 
 mod adpcm;
+mod dsp;
 mod mode;
 mod parameters;
 mod refusal;
@@ -45,7 +48,8 @@ mod tests;
 struct Readme;
 
 pub use adpcm::decode_adpcm;
+pub use dsp::{read_dsp, write_dsp};
 pub use parameters::{PARAMETERS, Parameters, revision};
 pub use refusal::Refusal;
 pub use renderer::{MOST_HELD, Renderer};
-pub use sys::AdpcmContext;
+pub use sys::{AdpcmContext, DspHeader};

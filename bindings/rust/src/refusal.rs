@@ -23,6 +23,10 @@ pub enum Refusal {
     Start,
     /// 9: the output of an ADPCM decode is shorter than the count.
     Output,
+    /// 11: a DSP file has fewer than 96 bytes, or its format, gain or padding is not 0.
+    DspHeader,
+    /// 12: the data of a DSP file is too short for its samples, or the output for the file.
+    DspLength,
     /// A number that this version of the crate does not know, from a library of another version.
     Other(u32),
 }
@@ -40,6 +44,8 @@ impl Refusal {
             Refusal::Frames => 7,
             Refusal::Start => 8,
             Refusal::Output => 9,
+            Refusal::DspHeader => 11,
+            Refusal::DspLength => 12,
             Refusal::Other(number) => number,
         }
     }
@@ -57,6 +63,8 @@ impl Refusal {
             7 => Refusal::Frames,
             8 => Refusal::Start,
             9 => Refusal::Output,
+            11 => Refusal::DspHeader,
+            12 => Refusal::DspLength,
             number => Refusal::Other(number),
         })
     }
@@ -73,6 +81,8 @@ impl Refusal {
             Refusal::Frames => "the frame slice is shorter than 2 * samples",
             Refusal::Start => "the start of an ADPCM decode is above 2^60",
             Refusal::Output => "the output of an ADPCM decode is shorter than the count",
+            Refusal::DspHeader => "a DSP file has no whole header, or format, gain or padding is not 0",
+            Refusal::DspLength => "the data of a DSP file is too short for its samples, or the output for the file",
             Refusal::Other(_) => "an unknown number",
         }
     }

@@ -92,6 +92,60 @@ pub struct Decoded {
     pub context: AdpcmContext,
 }
 
+/// The values of a DSP file's header, in the file's sequence; padding is none of them.
+#[repr(C)]
+#[derive(Clone, Copy, Debug, Default, PartialEq, Eq)]
+pub struct DspHeader {
+    /// How many samples the data holds at least.
+    pub samples: u32,
+    /// Nibbles, with those of the frames' headers; nothing is held to it.
+    pub nibbles: u32,
+    /// Samples in a second.
+    pub rate: u32,
+    /// Whether the clip loops.
+    pub loop_flag: u16,
+    /// 0.
+    pub format: u16,
+    /// Where the loop starts.
+    pub loop_start: u32,
+    /// Where the loop ends.
+    pub loop_end: u32,
+    /// The current address.
+    pub address: u32,
+    /// Eight pairs of coefficients, as [`jeqlluna_decode_adpcm`] takes them.
+    pub coefficients: [i16; 16],
+    /// 0.
+    pub gain: u16,
+    /// What a decode from the first sample on starts from.
+    pub start_context: AdpcmContext,
+    /// What a decode from the loop's start on starts from.
+    pub loop_context: AdpcmContext,
+}
+
+/// What a DSP file has.
+#[repr(C)]
+#[derive(Clone, Copy, Debug, PartialEq, Eq)]
+pub struct DspRead {
+    /// 0, or the refusal's number.
+    pub number: u32,
+    /// Its header.
+    pub header: DspHeader,
+    /// Where its data begins: 96.
+    pub data: usize,
+    /// Bytes of its data: all up to the file's end.
+    pub data_len: usize,
+}
+
+/// What writing a DSP file answers.
+#[repr(C)]
+#[derive(Clone, Copy, Debug, PartialEq, Eq)]
+pub struct DspWritten {
+    /// 0, or the refusal's number.
+    pub number: u32,
+    /// Bytes written: 96 and the data's.
+    pub size: usize,
+}
+
 unsafe extern "C" {
     /// How long the five slices of a renderer must be. Refusals: 1, 2.
     pub fn jeqlluna_lengths(parameters: *const u8, parameters_len: usize) -> Lengths;
@@ -179,4 +233,10 @@ unsafe extern "C" {
         output: *mut f32,
         output_len: usize,
     ) -> Decoded;
+
+    /// The header of a DSP file, and where its data stands. Refusals: 11, 12.
+    pub fn jeqlluna_read_dsp(file: *const u8, file_len: usize) -> DspRead;
+
+    /// Writes a DSP file to the front of the output. Refusals: 11, 12.
+    pub fn jeqlluna_write_dsp(header: DspHeader, data: *const u8, data_len: usize, output: *mut u8, output_len: usize) -> DspWritten;
 }

@@ -1,5 +1,6 @@
 //! The crate's tests, on the library that it links.
 mod adpcm;
+mod dsp;
 mod lengths;
 mod modes;
 mod refusals;
