@@ -2,67 +2,18 @@
  * beginning of what lies between or at its end, exactly as long as it must be; slices that are only read can't be written meanwhile.
  * Every answer, reply, frame and state is that of the same calls on plain memory. MXCSR, in hexadecimal, is another floating-point mode
  * for all of it. */
-#ifndef _GNU_SOURCE
-#define _GNU_SOURCE 1
-#endif
 #include <stdio.h>
 #include <stdlib.h>
 #include <string.h>
-#include <sys/mman.h>
 #include <xmmintrin.h>
 
+#include "dsp.h"
+#include "region.h"
 #include "title.h"
 
-#define PAGE 4096
 #define REPLY 20000 /* the longest reply for which there is room */
 
-/* Pages between two that can't be touched. */
-typedef struct {
-    uint8_t *start;
-    size_t bytes;
-} Region;
-
 static long calls = 0;
-
-static Region region(size_t most) {
-    Region r;
-    r.bytes = (most + PAGE - 1) / PAGE * PAGE;
-    r.start = (uint8_t *)mmap(NULL, r.bytes + 2 * PAGE, PROT_NONE, MAP_PRIVATE | MAP_ANONYMOUS, -1, 0);
-    if (r.start == MAP_FAILED) {
-        fail("mmap");
-    }
-    r.start += PAGE;
-    if (r.bytes > 0 && mprotect(r.start, r.bytes, PROT_READ | PROT_WRITE) != 0) {
-        fail("mprotect");
-    }
-    return r;
-}
-
-static void release(Region r) {
-    munmap(r.start - PAGE, r.bytes + 2 * PAGE);
-}
-
-/* Where so many bytes stand in a region. */
-static uint8_t *place(Region r, size_t bytes, int at_end) {
-    return at_end ? r.start + r.bytes - bytes : r.start;
-}
-
-static void allow(Region r, int writing) {
-    if (r.bytes > 0 && mprotect(r.start, r.bytes, writing ? PROT_READ | PROT_WRITE : PROT_READ) != 0) {
-        fail("mprotect");
-    }
-}
-
-/* Bytes that a call may only read. */
-static const uint8_t *lend(Region r, const uint8_t *bytes, size_t n, int at_end) {
-    uint8_t *p = place(r, n, at_end);
-    allow(r, 1);
-    if (n > 0) {
-        memcpy(p, bytes, n);
-    }
-    allow(r, 0);
-    return p;
-}
 
 static void hold(const char *what, int same) {
     calls++;
@@ -151,6 +102,31 @@ static void decode(int at_end, uint64_t *seed) {
     release(out);
 }
 
+/* A DSP file is read, and its header and data are written to an output of its length, or of a byte less or more. */
+static void dsp(int at_end, uint64_t *seed) {
+    uint8_t file[DSP_MOST], expected[DSP_MOST + 1], *output;
+    size_t n = put_dsp(seed, file), room = n + 1 - below(seed, 3), data = n < DSP_HEADER ? n : DSP_HEADER;
+    Region in = region(sizeof file), out = region(sizeof expected);
+    JeqllunaDspRead a, b;
+    JeqllunaDspWritten x, y;
+    a = jeqlluna_read_dsp(lend(in, file, n, at_end), n);
+    b = jeqlluna_read_dsp(file, n);
+    hold("DSP file read", same_reads(&a, &b));
+    if (room > sizeof expected) {
+        room = 0;
+    }
+    output = place(out, room, at_end);
+    memset(output, 0x5a, room);
+    memset(expected, 0x5a, sizeof expected);
+    x = jeqlluna_write_dsp(a.header, lend(in, file + data, n - data, at_end), n - data, output, room);
+    y = jeqlluna_write_dsp(b.header, file + data, n - data, expected, room);
+    hold("DSP file written", x.number == y.number && x.size == y.size && memcmp(output, expected, room) == 0);
+    hold("DSP file again", a.number != 0 || x.number == (room < n ? (uint32_t)JEQLLUNA_DSP_LENGTH : 0u));
+    hold("DSP file again", a.number != 0 || x.number != 0 || memcmp(output, file, n) == 0);
+    release(in);
+    release(out);
+}
+
 static void session(const Counts *c, int at_end, uint64_t seed) {
     static const int formats[] = {2, 5, 6, 3};
     uint8_t p[JEQLLUNA_PARAMETERS], bytes[MEMORY], *title = (uint8_t *)room(title_size(c));
@@ -188,6 +164,7 @@ static void session(const Counts *c, int at_end, uint64_t seed) {
         }
         render(&g, &plain, c, memory, bytes, at_end, &seed);
         decode(at_end, &seed);
+        dsp(at_end, &seed);
     }
     for (k = 0; k < 5; k++) {
         release(held[k]);

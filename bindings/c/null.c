@@ -130,6 +130,28 @@ static void adpcm(void) {
     hold("decode of nothing", d.context.history0 == -3, 1);
 }
 
+/* DSP files: no file, no data, no output. */
+static void dsp(void) {
+    uint8_t file[96] = {0}, output[96] = {0};
+    JeqllunaDspRead r = jeqlluna_read_dsp(NULL, 0), s;
+    JeqllunaDspWritten w;
+    hold("read of nothing", r.number, JEQLLUNA_DSP_HEADER);
+    hold("read of nothing", r.data + r.data_len + r.header.samples, 0);
+    file[0x0b] = 77;
+    s = jeqlluna_read_dsp(file, sizeof file);
+    hold("read without data", s.number, 0);
+    hold("read without data", s.data, 96);
+    hold("read without data", s.data_len, 0);
+    w = jeqlluna_write_dsp(s.header, NULL, 0, output, sizeof output);
+    hold("write without data", w.number, 0);
+    hold("write without data", w.size, 96);
+    hold("file", memcmp(file, output, sizeof file) == 0, 1);
+    hold("write without output", jeqlluna_write_dsp(s.header, file, sizeof file, NULL, 0).number, JEQLLUNA_DSP_LENGTH);
+    hold("write of nothing", jeqlluna_write_dsp(s.header, NULL, 0, NULL, 0).number, JEQLLUNA_DSP_LENGTH);
+    s.header.gain = 1;
+    hold("write of nothing", jeqlluna_write_dsp(s.header, NULL, 0, NULL, 0).number, JEQLLUNA_DSP_HEADER);
+}
+
 int main(void) {
     static const Counts nothing = {48000, 2, 0, 0, 0, 0, 0, 0, 0, 5};
     parameters();
@@ -140,6 +162,7 @@ int main(void) {
     calls_of(&SMALL);
     calls_of(&MIDDLE);
     adpcm();
+    dsp();
     printf("%d answers with NULL\n", calls);
     return 0;
 }

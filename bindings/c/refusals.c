@@ -3,6 +3,7 @@
 #include <stdlib.h>
 #include <string.h>
 
+#include "dsp.h"
 #include "title.h"
 
 static int answers = 0;
@@ -123,11 +124,55 @@ static void adpcm_refused(void) {
     expect("decode", d.number, JEQLLUNA_OUTPUT, d.done != 0 || d.context.history0 != 0 || !marked(output, sizeof output));
 }
 
+/* Files and writes: 11 for each byte that it asks of, 12 after it. */
+static void dsp_refused(void) {
+    const JeqllunaDspRead none = {0, {0, 0, 0, 0, 0, 0, 0, 0, {0}, 0, {0, 0, 0}, {0, 0, 0}}, 0, 0};
+    uint8_t file[96 + 9] = {0}, output[96 + 9];
+    JeqllunaDspRead r;
+    JeqllunaDspWritten w;
+    size_t n, k;
+    memset(output, 0x5a, sizeof output);
+    memset(file, 0x11, 0x4a);
+    memset(file, 0, 3);
+    memset(file + 0x0e, 0, 2);
+    memset(file + 0x3c, 0, 2);
+    file[3] = 15; /* samples, which take 8 + 2 bytes */
+    for (n = 0; n <= sizeof file; n++) {
+        JeqllunaDspRead due = none;
+        r = jeqlluna_read_dsp(file, n);
+        due.number = n < 96 ? JEQLLUNA_DSP_HEADER : JEQLLUNA_DSP_LENGTH;
+        expect("read", r.number, due.number, !same_reads(&r, &due));
+    }
+    for (k = 0; k < 96; k++) {
+        int tested = k == 0x0e || k == 0x0f || k == 0x3c || k == 0x3d || k >= 0x4a;
+        uint8_t before = file[k];
+        file[k] = (uint8_t)(before + 1);
+        expect("read", jeqlluna_read_dsp(file, sizeof file).number, tested ? JEQLLUNA_DSP_HEADER : JEQLLUNA_DSP_LENGTH, 0);
+        file[k] = before;
+    }
+    file[3] = 14;
+    r = jeqlluna_read_dsp(file, sizeof file);
+    expect("read", r.number, JEQLLUNA_OK, r.header.samples != 14 || r.data != 96 || r.data_len != 9);
+    for (n = 0; n < sizeof output; n++) {
+        w = jeqlluna_write_dsp(r.header, file + 96, 9, output, n);
+        expect("write", w.number, JEQLLUNA_DSP_LENGTH, w.size != 0 || !marked(output, sizeof output));
+    }
+    w = jeqlluna_write_dsp(r.header, file + 96, 7, output, sizeof output);
+    expect("write", w.number, JEQLLUNA_DSP_LENGTH, w.size != 0 || !marked(output, sizeof output));
+    for (k = 0; k < 3; k++) {
+        r.header.format = k < 2;
+        r.header.gain = k > 0 ? 0x100 : 0;
+        w = jeqlluna_write_dsp(r.header, file + 96, 7 + k, output, k < 2 ? sizeof output : 0);
+        expect("write", w.number, JEQLLUNA_DSP_HEADER, w.size != 0 || !marked(output, sizeof output));
+    }
+}
+
 int main(void) {
     counts_refused();
     state_refused();
     rooms_refused();
     adpcm_refused();
+    dsp_refused();
     printf("%d answers by number\n", answers);
     return 0;
 }

@@ -16,8 +16,8 @@
 #define NEAR 512u /* the frame of the function that paints; a call that takes less is not told from it */
 #define PAINT 0x9e3779b97f4a7c15u
 
-enum { LENGTHS, REPLY_LENGTH, OPEN, UPDATE, RENDER, ORDER, DECODE };
-static const char *const names[] = {"lengths", "reply length", "open", "update", "render", "mix order", "decode"};
+enum { LENGTHS, REPLY_LENGTH, OPEN, UPDATE, RENDER, ORDER, DECODE, READ_DSP, WRITE_DSP };
+static const char *const names[] = {"lengths", "reply length", "open", "update", "render", "mix order", "decode", "read DSP", "write DSP"};
 
 typedef struct {
     int call;
@@ -32,6 +32,13 @@ static uint64_t *low; /* the lowest place of the stack */
 static uint8_t memory[MEMORY], reply[20000], parameters[JEQLLUNA_PARAMETERS];
 static float frames[512];
 static size_t deepest = 0;
+
+/* The calls for DSP files, apart, so that their larger answers are not counted for other calls. */
+__attribute__((noinline)) static void file_call(Work *w) {
+    static JeqllunaDsp header; /* of no samples */
+    w->number = w->call == READ_DSP ? jeqlluna_read_dsp(reply, sizeof reply).number
+                                    : jeqlluna_write_dsp(header, memory, MEMORY, reply, sizeof reply).number;
+}
 
 static void call(Work *w) {
     static const int16_t pairs[16] = {2048, 0, 1024, 512};
@@ -59,8 +66,11 @@ static void call(Work *w) {
                         d->n.history)
                         .number;
         break;
-    default:
+    case DECODE:
         w->number = jeqlluna_decode_adpcm(memory, MEMORY, 0, 256, pairs, 16, context, frames, 512).number;
+        break;
+    default:
+        file_call(w);
     }
 }
 
@@ -157,6 +167,15 @@ static void desk(const char *name, const Counts *c) {
     free(title);
 }
 
+/* The calls that need no desk: a DSP file written, and the same read. */
+static void files(void) {
+    Work w;
+    memset(&w, 0, sizeof w);
+    for (w.call = WRITE_DSP; w.call >= READ_DSP; w.call--) {
+        print("any", names[w.call], measure(w, 1));
+    }
+}
+
 int main(void) {
     uint64_t seed = 3;
     low = (uint64_t *)mmap(NULL, STACK, PROT_READ | PROT_WRITE, MAP_PRIVATE | MAP_ANONYMOUS, -1, 0);
@@ -167,6 +186,7 @@ int main(void) {
     desk("small", &SMALL);
     desk("middle", &MIDDLE);
     desk("largest", &LARGEST);
+    files();
     printf("deepest %lu bytes, JEQLLUNA_STACK %d\n", (unsigned long)deepest, JEQLLUNA_STACK);
     if (2 * deepest < JEQLLUNA_STACK) {
         fail("less than half of JEQLLUNA_STACK");

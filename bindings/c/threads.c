@@ -7,6 +7,7 @@
 #include <stdio.h>
 #include <stdlib.h>
 
+#include "dsp.h"
 #include "title.h"
 
 #define THREADS 8
@@ -19,6 +20,18 @@ typedef struct {
     uint64_t seed, result;
     int together;
 } Work;
+
+/* Goes on from a sum over a DSP file that is read and written again, on the thread's own stack. */
+static uint64_t dsp(uint64_t s, uint64_t *seed) {
+    uint8_t file[DSP_MOST], output[DSP_MOST];
+    size_t n = put_dsp(seed, file);
+    JeqllunaDspRead r = jeqlluna_read_dsp(file, n);
+    JeqllunaDspWritten w = jeqlluna_write_dsp(r.header, file + r.data, r.data_len, output, sizeof output);
+    if (w.number != 0 || (r.number == 0 && (w.size != n || sum(1, file, n) != sum(1, output, n)))) {
+        fail("a DSP file: read %u, written %u", (unsigned)r.number, (unsigned)w.number);
+    }
+    return sum(sum(s, output, w.size), &r.number, sizeof r.number);
+}
 
 /* A session by its seed; the result sums up all that the calls gave. */
 static void *run(void *given) {
@@ -52,6 +65,7 @@ static void *run(void *given) {
         }
         s = sum(s, frames, n * sizeof *frames);
         s = sum(s, &r.rounds, sizeof r.rounds);
+        s = dsp(s, &seed);
     }
     w->result = s ^ desk_sum(&d);
     close_desk(&d);
