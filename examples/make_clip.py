@@ -40,11 +40,18 @@ def frame(samples, history):
     return bytes([header] + [n[k] * 16 + n[k + 1] for k in range(0, 14, 2)]), made, h
 
 
-data, lines, history = b"", "", (0, 0)
-for k in range(FRAMES):
-    block, made, history = frame(NOTE[14 * k:14 * k + 14], history)
-    data += block
-    lines += " ".join(map(str, made)) + "\n"
-pairs = b"".join(struct.pack("<hh", c, d) for c, d in PAIRS)
-open(sys.argv[1], "wb").write(pairs + struct.pack("<Hhh", 0, 0, 0) + data)
-open(sys.argv[2], "w").write(lines)
+def clip(note):
+    """Frames of a note, and the samples that each decodes to."""
+    data, frames, history = b"", [], (0, 0)
+    for k in range(0, len(note), 14):
+        block, made, history = frame(note[k:k + 14], history)
+        data += block
+        frames.append(made)
+    return data, frames
+
+
+if __name__ == "__main__":
+    data, frames = clip(NOTE)
+    pairs = b"".join(struct.pack("<hh", c, d) for c, d in PAIRS)
+    open(sys.argv[1], "wb").write(pairs + struct.pack("<Hhh", 0, 0, 0) + data)
+    open(sys.argv[2], "w").write("".join(" ".join(map(str, made)) + "\n" for made in frames))

@@ -1,5 +1,5 @@
-/* Eight threads, each with its own renderer and all with the same sample memory, give the frames, replies and states that each gives alone:
- * threads [RENDERS]. */
+/* Eight threads, each with its own renderer and DSP files, all with the same sample memory, give the frames, replies, states and files that
+ * each gives alone: threads [RENDERS]. */
 #ifndef _GNU_SOURCE
 #define _GNU_SOURCE 1
 #endif
