@@ -1,5 +1,6 @@
 //! DSP files.
-use crate::{AdpcmContext, DspHeader, Refusal, decode_adpcm, read_dsp, sys, write_dsp};
+use super::title::{ONE_VOICE, put, title};
+use crate::{AdpcmContext, DspHeader, Parameters, Refusal, Renderer, decode_adpcm, read_dsp, sys, write_dsp};
 use alloc::vec;
 use alloc::vec::Vec;
 
@@ -60,6 +61,49 @@ fn read_and_decoded() {
     assert_eq!(decode_adpcm(data, 0, header.samples as usize, &header.coefficients, &mut context, &mut output), Ok(17));
     // The first nibble, by predictor 1 and scale 0: 0, and coefficients 3 and -4 times the history -5 and 0x607, over 2048.
     assert_eq!(output[0], ((3 * -5 - 4 * 0x607 + 1024) >> 11) as f32);
+}
+
+/// The six bytes of a context in sample memory.
+fn context(x: &AdpcmContext) -> [u8; 6] {
+    let words = [x.pred_scale, x.history0 as u16, x.history1 as u16].map(u16::to_le_bytes);
+    words.concat().try_into().expect("six bytes")
+}
+
+/// A clip that loops from its middle on, played as docs/TITLES.md says: one buffer up to the loop's end, and one that is the loop.
+#[test]
+fn a_looped_file_plays() {
+    let (header, data) = read_dsp(include_bytes!("../../../../examples/looped.dsp")).unwrap();
+    let sample = |nibble: u32| nibble / 16 * 14 + nibble % 16 - 2;
+    let (start, end) = (sample(header.loop_start), sample(header.loop_end) + 1);
+    assert_eq!((header.samples, start, end), (80, 45, 80));
+    let coefficients: Vec<u8> = header.coefficients.iter().flat_map(|c| c.to_le_bytes()).collect();
+    let memory = [&coefficients[..], &context(&header.start_context), &context(&header.loop_context), data].concat();
+    let base = 0x10000;
+    let mut update = title(1.0, true);
+    let (voice, wave) = (0xb0, 0xb0 + 0x60);
+    update[voice + 0x0b] = 6;
+    for (at, value) in [(0x0c, header.rate), (0x3c, 2), (0x48, base)] {
+        put(&mut update, voice + at, value);
+    }
+    for (slot, from, looping, begins) in [(0, 0, 0, base + 32), (1, start, 1, base + 38)] {
+        let at = wave + slot * 0x38;
+        let place = [(0x00, base + 44), (0x08, data.len() as u32), (0x10, from), (0x14, end)];
+        for (field, value) in place.into_iter().chain([(0x18, looping), (0x1c, u32::MAX), (0x20, begins)]) {
+            put(&mut update, at + field, value);
+        }
+    }
+    let mut renderer = Renderer::open(&Parameters { sample_rate: header.rate, ..ONE_VOICE }).unwrap();
+    renderer.update(0, &update, 4096).unwrap();
+    let mut samples = [0.0; 80];
+    assert_eq!(decode_adpcm(data, 0, 80, &header.coefficients, &mut { header.start_context }, &mut samples), Ok(80));
+    // At this ratio the output stands two samples behind.
+    let mut played = vec![0.0, 0.0];
+    played.extend((0..478).map(|k| samples[if k < 80 { k } else { 45 + (k - 80) % 35 }] / 32768.0));
+    for expected in played.chunks(240) {
+        let mut frames = [0.0; 480];
+        renderer.render(base.into(), &memory, &mut frames).unwrap();
+        assert!(frames.chunks(2).zip(expected).all(|(frame, &x)| frame == [x, x]), "{frames:?} and {expected:?}");
+    }
 }
 
 #[test]
