@@ -8,6 +8,7 @@ damaged.dsp      note.dsp with a byte of its padding set
 
 Header and samples of the texts are read back from the file's bytes here, by Python's struct and the public description of DSP-ADPCM."""
 import os
+import random
 import struct
 import subprocess
 import sys
@@ -18,7 +19,8 @@ from make_clip import NOTE, PAIRS, clip
 HERE = os.path.dirname(os.path.abspath(__file__))
 # Big-endian: counts, rate, loop flag, format, loop start and end, address, coefficients, gain, two contexts, padding.
 HEADER = ">IIIHHIII16hHHhhHhh22s"
-NAMES = ["samples", "nibbles", "rate", "loop flag", "format", "loop start", "loop end", "address"]
+NAMES = ["samples", "nibbles", "rate", "loop_flag", "format", "loop_start", "loop_end", "address"]
+MOST = 524288  # bytes that dsp_main takes
 
 
 def size(samples):
@@ -67,6 +69,8 @@ def dsp(samples, beyond=b"", loop=None):
 
 def lines(file):
     """What dsp_main prints for a file."""
+    if len(file) > MOST:
+        return f"too long: the most bytes are {MOST}\n"
     if len(file) < 96:
         return "refused 11\n"
     *numbers, padding = struct.unpack(HEADER, file[:96])
@@ -79,11 +83,30 @@ def lines(file):
         return "refused 12\n"
     said = [f"{name} {value}" for name, value in zip(NAMES, first)]
     said += ["coefficients " + " ".join(map(str, pairs)), f"gain {gain}"]
-    said += [name + " ".join(map(str, context)) for name, context in zip(["start context ", "loop context "], contexts)]
+    said += [name + " ".join(map(str, context)) for name, context in zip(["start_context ", "loop_context "], contexts)]
     said += [f"data {len(data)}", f"holding samples {used}", f"beyond {len(data) - used}"]
     samples = decode(data, first[0], pairs, contexts[0])[0]
     text = "".join(str(s) + ("\n" if k % 14 == 13 else " ") for k, s in enumerate(samples))
     return "\n".join(said) + "\n" + text
+
+
+def any_files():
+    """Files with values of any kind, some too short: few samples, and counts around those that dsp_main decodes at once."""
+    r = random.Random(1)
+    for samples in [*range(60), 3583, 3584, 3585, 7167, 7168, 7169, held(MOST - 96)]:
+        word, signed, long = (range(2 ** 16), range(-2 ** 15, 2 ** 15), range(2 ** 32))
+        pairs = [r.choice([-32768, -1, 0, 1, 2048, 32767, r.choice(signed)]) for _ in range(16)]
+        contexts = [r.choice(kind) for kind in (word, signed, signed) * 2]
+        first = [samples, r.choice(long), r.choice(long), r.choice(word), 0, *r.choices(long, k=3)]
+        head, data = struct.pack(HEADER, *first, *pairs, 0, *contexts, b""), r.randbytes(size(samples))
+        yield f"any of {samples} samples", head + data
+        yield f"any of {samples} samples, a byte more", head + data + b"\xff"
+        yield f"any of {samples} samples, a byte less", head + data[:-1]
+
+
+def held(size):
+    """How many samples so many bytes hold."""
+    return size // 8 * 14 + max(0, size % 8 - 1) * 2
 
 
 def main():
@@ -101,11 +124,12 @@ def main():
     tried = list(files.items())
     # Cut at every length, so that each refusal comes.
     tried += [(f"{name} cut to {n} bytes", file[:n]) for name, file in files.items() for n in range(len(file))]
+    tried += any_files()
     for program in sys.argv[2:]:
         for name, file in tried:
             said = subprocess.run([program], input=file, capture_output=True, check=True).stdout
             if said != lines(file).encode():
-                sys.exit(f"make_dsp.py: {program} prints something else for {name}:\n{said.decode()}")
+                sys.exit(f"make_dsp.py: {program} prints something else for {name}: {said[:2000]}")
         print(f"{len(tried)} files as {os.path.basename(program)} prints them")
 
 
