@@ -1,11 +1,11 @@
-//! Bad input never ends a process: a million updates with random and hostile numbers, renders in between, under a limit of 256 MB of
-//! memory.
+//! Bad input never ends a process: a million updates with random and hostile numbers, renders and DSP files in between, under a limit of
+//! 256 MB of memory.
 //!
 //!     cargo build --release --example hostile && prlimit --as=268435456 target/release/examples/hostile [UPDATES]
 //!
 //! It prints how many calls were answered how, and fails where the process is not limited, a refusal changes something, or a kind of answer
 //! never came.
-use jeqlluna::{PARAMETERS, Refusal, Renderer};
+use jeqlluna::{PARAMETERS, Refusal, Renderer, read_dsp, write_dsp};
 use std::collections::BTreeMap;
 use std::process::ExitCode;
 
@@ -107,6 +107,32 @@ fn input(r: &mut Random) -> Vec<u8> {
     d
 }
 
+/// A DSP file of any bytes and any length, or one that says 0 where it must, with a sample count of any size.
+fn dsp(r: &mut Random) -> Vec<u8> {
+    let mut file = vec![0; r.below(400)];
+    r.fill(&mut file);
+    if file.len() >= 96 && r.below(4) > 0 {
+        let samples = if r.below(4) == 0 { r.number() } else { r.below(2 * (file.len() - 95)) as u32 };
+        file[..4].copy_from_slice(&samples.to_be_bytes());
+        for zeros in [0x0e..0x10, 0x3c..0x3e, 0x4a..0x60] {
+            file[zeros].fill(0);
+        }
+    }
+    file
+}
+
+/// Reads a DSP file, and writes one of what it held, or of another header, to an output of any length.
+fn files(r: &mut Random, tally: &mut BTreeMap<(&'static str, u32), u64>) {
+    let file = dsp(r);
+    let read = read_dsp(&file);
+    count(tally, "read_dsp", &read);
+    if let Ok((mut header, data)) = read {
+        (header.samples, header.gain) = (header.samples / 2 * r.below(5) as u32, u16::from(r.below(8) == 0));
+        let mut output = vec![0; r.below(2 * file.len())];
+        count(tally, "write_dsp", &write_dsp(&header, data, &mut output));
+    }
+}
+
 /// Whether the process may take no more than it should.
 fn limited() -> bool {
     let limits = std::fs::read_to_string("/proc/self/limits").unwrap_or_default();
@@ -159,6 +185,7 @@ fn main() -> ExitCode {
                 looked += 1;
                 assert_eq!(next(&before, &memory), next(&renderer, &memory), "a refusal changed something");
             }
+            files(r, &mut tally);
             if r.below(4) == 0 {
                 let mut frames = [0.0; 512];
                 let base = if r.below(8) == 0 { r.next() } else { u64::from(r.number()) };
@@ -171,7 +198,14 @@ fn main() -> ExitCode {
         println!("{call} answered {number}: {n}");
     }
     println!("{made} updates, the longest reply {longest} bytes; of the refused {looked} were looked at, and none had changed anything");
-    let due = [("open", 0), ("open", 1), ("open", 2), ("render", 0), ("render", 5), ("render", 7), ("update", 0), ("update", 6)];
+    let due = [
+        ("open", &[0, 1, 2][..]),
+        ("read_dsp", &[0, 11, 12]),
+        ("render", &[0, 5, 7]),
+        ("update", &[0, 6]),
+        ("write_dsp", &[0, 11, 12]),
+    ];
+    let due: Vec<_> = due.into_iter().flat_map(|(call, numbers)| numbers.iter().map(move |&n| (call, n))).collect();
     let came: Vec<_> = tally.keys().copied().collect();
     if updates >= 10_000 && came != due {
         eprintln!("other answers than those that are due");
