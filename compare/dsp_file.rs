@@ -23,10 +23,12 @@ use sys::{AdpcmContext, DspHeader, DspRead, DspWritten, jeqlluna_read_dsp, jeqll
 /// What an output holds before a call.
 const MARK: u8 = 0xa5;
 
+/// The port's reader.
 fn read(file: &[u8]) -> DspRead {
     unsafe { jeqlluna_read_dsp(file.as_ptr(), file.len()) }
 }
 
+/// The port's writer.
 fn write(values: &Values, data: &[u8], output: &mut [u8]) -> DspWritten {
     unsafe { jeqlluna_write_dsp(header(values), data.as_ptr(), data.len(), output.as_mut_ptr(), output.len()) }
 }

@@ -44,7 +44,6 @@ pub const KINDS: [&str; 33] = [
     "the most samples, a byte more: write",
 ];
 
-#[derive(Clone)]
 pub struct Tally {
     kinds: [u64; KINDS.len()],
     /// Files of each length.
@@ -62,6 +61,7 @@ pub struct Tally {
 }
 
 impl Tally {
+    /// Nothing counted yet.
     pub fn new() -> Tally {
         Tally {
             kinds: [0; KINDS.len()],

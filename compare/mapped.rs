@@ -45,6 +45,7 @@ impl Mapped {
         mapped
     }
 
+    /// All of them.
     pub fn slice(&self) -> &[u8] {
         // SAFETY: so many bytes are mapped as long as this lives, and nothing writes them.
         unsafe { std::slice::from_raw_parts(self.at, self.bytes) }

@@ -127,10 +127,10 @@ typedef struct {
 /* The values of a DSP file's header, in the file's sequence; padding is none of them. */
 typedef struct {
     uint32_t samples, nibbles, rate;
-    uint16_t loop_flag, format; /* format: 0 */
+    uint16_t loop_flag, format; /* a format other than 0 is refused */
     uint32_t loop_start, loop_end, address;
     int16_t coefficients[16]; /* eight pairs, as jeqlluna_decode_adpcm takes them */
-    uint16_t gain;            /* 0 */
+    uint16_t gain;            /* so is a gain */
     JeqllunaContext start_context, loop_context; /* to decode with from the first sample on, and from the loop's start on */
 } JeqllunaDsp;
 

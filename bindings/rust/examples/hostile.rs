@@ -198,13 +198,8 @@ fn main() -> ExitCode {
         println!("{call} answered {number}: {n}");
     }
     println!("{made} updates, the longest reply {longest} bytes; of the refused {looked} were looked at, and none had changed anything");
-    let due = [
-        ("open", &[0, 1, 2][..]),
-        ("read_dsp", &[0, 11, 12]),
-        ("render", &[0, 5, 7]),
-        ("update", &[0, 6]),
-        ("write_dsp", &[0, 11, 12]),
-    ];
+    let due =
+        [("open", &[0, 1, 2][..]), ("read_dsp", &[0, 11, 12]), ("render", &[0, 5, 7]), ("update", &[0, 6]), ("write_dsp", &[0, 11, 12])];
     let due: Vec<_> = due.into_iter().flat_map(|(call, numbers)| numbers.iter().map(move |&n| (call, n))).collect();
     let came: Vec<_> = tally.keys().copied().collect();
     if updates >= 10_000 && came != due {

@@ -36,9 +36,7 @@ pub fn read_dsp(file: &[u8]) -> Result<(DspHeader, &[u8]), Refusal> {
 /// ```
 pub fn write_dsp(header: &DspHeader, data: &[u8], output: &mut [u8]) -> Result<usize, Refusal> {
     // SAFETY: each pointer and count are those of one slice; the one that is written is borrowed here alone.
-    let r = mode::ordered(|| unsafe {
-        sys::jeqlluna_write_dsp(*header, data.as_ptr(), data.len(), output.as_mut_ptr(), output.len())
-    });
+    let r = mode::ordered(|| unsafe { sys::jeqlluna_write_dsp(*header, data.as_ptr(), data.len(), output.as_mut_ptr(), output.len()) });
     Refusal::check(r.number)?;
     Ok(r.size)
 }

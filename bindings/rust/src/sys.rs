@@ -104,7 +104,7 @@ pub struct DspHeader {
     pub rate: u32,
     /// Whether the clip loops.
     pub loop_flag: u16,
-    /// 0.
+    /// 0 for ADPCM; any other is refused.
     pub format: u16,
     /// Where the loop starts.
     pub loop_start: u32,
@@ -114,7 +114,7 @@ pub struct DspHeader {
     pub address: u32,
     /// Eight pairs of coefficients, as [`jeqlluna_decode_adpcm`] takes them.
     pub coefficients: [i16; 16],
-    /// 0.
+    /// 0; any other is refused.
     pub gain: u16,
     /// What a decode from the first sample on starts from.
     pub start_context: AdpcmContext,

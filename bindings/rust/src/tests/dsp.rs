@@ -31,6 +31,7 @@ const BYTES: [u8; 96] = [
 /// The least that 17 samples take: a frame of 14, and of another the header and a byte and a half.
 const DATA: [u8; 11] = [0x10, 2, 3, 4, 5, 6, 7, 8, 0x20, 10, 11];
 
+/// The file of `HEADER` and this data.
 fn file(data: &[u8]) -> Vec<u8> {
     [&BYTES[..], data].concat()
 }
