@@ -34,5 +34,5 @@ pub fn fetch_row(
     let count = (out.len() - 3) as u32;
     let plan = plan::plan_fetch(q, s, count);
     let table = sound::coefficients(memory, s, plan.table);
-    sound::fetch_channel(plan, s, memory, &table, adpcm, history, c, out)
+    sound::fetch_channel(q, s, memory, &table, adpcm, history, c, out)
 }

@@ -1,40 +1,34 @@
--- The loop of a fetch's plan, round by round: what is left of it, done, is the whole plan. Assumes nothing.
+-- The rounds of a fetch, one after the other: what is left of them, done, is the whole plan. Assumes nothing.
 use Prim.Native.Nat.{ℕ, zero, suc, _+_, _-_, _≤_, _<_}
-use native.Mathlib.Numerals.{add-one}
 use native.Mathlib.Omega.{arith}
 use mathlib.Core.Bool.{Bool, true, false}
-use mathlib.Core.List.{List}
+use mathlib.Core.List.{List, [], _∷_, _++_}
 use mathlib.Core.Path.{_≡_, refl, sym, _∙_}
-use lib.ListN.{length, take, set, length-set}
-use lib.Seq.{take-suc-set}
 use Rattle.voice.specs.declared.queue.Queue.{Queue}
 use Rattle.plan.specs.declared.Source.{Source}
 use Rattle.plan.specs.declared.Act.{Act}
-use Rattle.plan.specs.declared.rounds.Round.{Round}
-use Rattle.plan.specs.Rounds.{roundPlan, more, Planned, grown, rounds, hasTable, planOf}
+use Rattle.plan.specs.Rounds.{Round, roundPlan, more, Planned, grown, rounds, hasTable, planOf}
 use Rattle.plan.specs.Fits.{rounded, made-le}
 
--- what the loop's locals say
+-- what the rounds so far say, whose acts no loop keeps
 abbrev pub sofar : Source → List Act → Queue → ℕ → ℕ → Planned
-sofar s acts q done k = record { queue = q; acts = take k acts; rounds = k; done = done; table = hasTable s }
+sofar s acts q done k = record { queue = q; acts = acts; rounds = k; done = done; table = hasTable s }
 
--- after k rounds
+-- after k rounds of a fetch from q, which did these acts and left the queue w
 pub record Planning (s : Source) (count : ℕ) (q : Queue) (acts : List Act) (w : Queue) (done k : ℕ) (going : Bool) : Type 0 where
   pub below : k ≤ 64
-  pub long : length acts ≡ 64
   pub upto : done ≤ count
   pub index : w .index < 4
   pub left : rounds (64 - k) going s count (sofar s acts w done k) ≡ planOf q s count
 
-pub plan-begin : (s : Source) (count : ℕ) (q : Queue) (acts : List Act) {going : Bool} → length acts ≡ 64 → q .index < 4 → going ≡ more true q 0 count
-    → Planning s count q acts q 0 0 going
+pub plan-begin : (s : Source) (count : ℕ) (q : Queue) {going : Bool} → q .index < 4 → going ≡ more true q 0 count
+    → Planning s count q [] q 0 0 going
 unfolding planOf
-plan-begin s count q acts l h e = record {
+plan-begin s count q h e = record {
   below = omega arith;
-  long = l;
   upto = omega arith;
   index = h;
-  left = λ i. rounds 64 (e i) s count (sofar s acts q 0 0);
+  left = λ i. rounds 64 (e i) s count (sofar s [] q 0 0);
 }
 
 rounds-more : (s : Source) (count n m : ℕ) (p : Planned) → n ≡ suc m
@@ -53,19 +47,16 @@ module _ {s : Source} {count : ℕ} {q : Queue} {acts : List Act} {w : Queue} {d
   round-index = rw e (rounded w s (count - done) .queue .index (p .index))
 
   pub plan-more : {going : Bool} → k < 64 → b ≡ true → going ≡ more (r .going) (r .queue) (done + r .got) count
-      → Planning s count q (set acts k (r .act)) (r .queue) (done + r .got) (k + 1) going
+      → Planning s count q (acts ++ (r .act ∷ [])) (r .queue) (done + r .got) (k + 1) going
   plan-more h t g =
-      let a = roundPlan w s (count - done) .act in
-      let ea = (λ i. take (add-one k i) (set acts k (e i .act))) ∙ take-suc-set acts k a (omega (arith, p .long)) in
       let eg = g ∙ (λ i. more (e i .going) (e i .queue) (done + e i .got) count) in
       record {
         below = omega arith;
-        long = length-set acts k (r .act) ∙ p .long;
         upto = round-upto;
         index = round-index;
         left = (λ i.
             rounds (64 - (k + 1)) (eg i) s count
-            (record { queue = e i .queue; acts = ea i; rounds = k + 1; done = done + e i .got; table = hasTable s }))
+            (record { queue = e i .queue; acts = acts ++ (e i .act ∷ []); rounds = k + 1; done = done + e i .got; table = hasTable s }))
             ∙ sym (rounds-more s count (64 - k) (64 - (k + 1)) (sofar s acts w done k) (omega arith))
             ∙ (λ i. rounds (64 - k) (sym t i) s count (sofar s acts w done k))
             ∙ p .left;
@@ -87,3 +78,8 @@ module _ {s : Source} {count : ℕ} {q : Queue} {acts : List Act} {w : Queue} {d
 
   pub plan-stop : b ≡ false → sofar s acts w done k ≡ planOf q s count
   plan-stop e = sym (rounds-stop s count (64 - k) _) ∙ (λ i. rounds (64 - k) (sym e i) s count (sofar s acts w done k)) ∙ p .left
+
+-- the same for a loop that keeps no acts
+pub record Walking (s : Source) (count : ℕ) (q w : Queue) (done k : ℕ) (going : Bool) : Type 0 where
+  pub acts : List Act
+  pub planning : Planning s count q acts w done k going

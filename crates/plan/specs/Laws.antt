@@ -18,9 +18,8 @@ use Rattle.plan.specs.declared.Decode.the-variants.{Nothing, Pcm, Adpcm,
 use Rattle.plan.specs.declared.attempt.Got.{Got}
 use Rattle.plan.specs.declared.attempt.Got.the-variants.{Missing, Samples}
 use Rattle.plan.specs.declared.attempt.Attempt.{Attempt}
-use Rattle.plan.specs.declared.after.Moved.{Moved}
 use Rattle.plan.specs.Attempt.{sample, noSamples, pcmPlan, adpcmPlan, decodePlan}
-use Rattle.plan.specs.Rounds.{renewsOf, inLoop, loopsOver, resetsPlayed, at, endIf, resetIf, afterMissing, afterLoop, spanOver, afterGot, roundOf, roundPlan}
+use Rattle.plan.specs.Rounds.{Moved, renewsOf, inLoop, loopsOver, resetsPlayed, at, endIf, resetIf, afterMissing, afterLoop, spanOver, afterGot, roundOf, roundPlan}
 
 -- ---- decodes
 
@@ -120,19 +119,21 @@ pub samples-made : (q : Queue) (s : Source) (w : WaveBuffer) (total : ℕ) (act 
 unfolding roundOf
 samples-made q s w total act hg hm = rw (hg, hm)
 
-pub round-made : (q : Queue) (s : Source) (left : ℕ) {renews looped : Bool} {start end total room want pos : ℕ} {tried : Attempt}
-    → let w = bufferAt q (q .index) in
-    renews ≡ renewsOf s w (q .offset) → looped ≡ inLoop (s .«buffers_v2») w (q .loops) → start ≡ cond looped (w .«loop_start») (w .start)
+pub round-made : (q : Queue) (s : Source) (left : ℕ) {w : WaveBuffer} {renews looped : Bool} {start end total room want pos : ℕ}
+    {tried : Attempt} → bufferAt q (q .index) ≡ w → renews ≡ renewsOf s w (q .offset)
+    → looped ≡ inLoop (s .«buffers_v2») w (q .loops) → start ≡ cond looped (w .«loop_start») (w .start)
     → end ≡ cond looped (w .«loop_end») (w .end) → total ≡ end - start → room ≡ total - q .offset → want ≡ min left room
     → pos ≡ (start + q .offset) % 2 ^ 32 → tried ≡ decodePlan s w (sample pos) want
     → roundOf q s w total (record { renews = renews; context = w .context; decode = tried .decode }) (tried .got) ≡ roundPlan q s left
 unfolding roundPlan
-round-made q s left hr hl hs he ht ho hw hp hd =
-    let w = bufferAt q (q .index) in
-    let s′ = hs ∙ (λ j. cond (hl j) (w .«loop_start») (w .start)) in
-    let e′ = he ∙ (λ j. cond (hl j) (w .«loop_end») (w .end)) in
+round-made q s left hb hr hl hs he ht ho hw hp hd =
+    let b = sym hb in
+    let r′ = hr ∙ (λ j. renewsOf s (b j) (q .offset)) in
+    let l′ = hl ∙ (λ j. inLoop (s .«buffers_v2») (b j) (q .loops)) in
+    let s′ = hs ∙ (λ j. cond (l′ j) (b j .«loop_start») (b j .start)) in
+    let e′ = he ∙ (λ j. cond (l′ j) (b j .«loop_end») (b j .end)) in
     let t′ = ht ∙ (λ j. e′ j - s′ j) in
     let w′ = hw ∙ (λ j. min left ((ho ∙ (λ k. t′ k - q .offset)) j)) in
     let p′ = hp ∙ (λ j. (s′ j + q .offset) % 2 ^ 32) in
-    let d′ = hd ∙ (λ j. decodePlan s w (sample (p′ j)) (w′ j)) in
-    λ i. roundOf q s w (t′ i) (record { renews = hr i; context = w .context; decode = d′ i .decode }) (d′ i .got)
+    let d′ = hd ∙ (λ j. decodePlan s (b j) (sample (p′ j)) (w′ j)) in
+    λ i. roundOf q s (b i) (t′ i) (record { renews = r′ i; context = b i .context; decode = d′ i .decode }) (d′ i .got)

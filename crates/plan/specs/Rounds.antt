@@ -3,9 +3,9 @@ use Prim.Native.Nat.{ℕ, zero, suc, _+_, _-_, _%_, _^_, min}
 use mathlib.Core.Bool.{Bool, true, false, cond, not, _&&_, _||_}
 use mathlib.Core.List.{List, [], _∷_, _++_}
 use lib.Dec.{leb, ltb, eqb}
-use lib.ListN.{getD, take}
+use lib.ListN.{getD}
 use Rattle.memory.specs.Memory.{readableOf}
-use Rattle.voice.specs.Queue.{bufferAt, endBuffer}
+use Rattle.voice.specs.Queue.{bufferAt, queueAt, endBuffer}
 use Rattle.voice.specs.declared.wave.WaveBuffer.{WaveBuffer}
 use Rattle.voice.specs.declared.queue.Queue.{Queue}
 use Rattle.plan.specs.Attempt.{sample, decodePlan}
@@ -13,8 +13,8 @@ use Rattle.plan.specs.declared.Source.{Source}
 use Rattle.plan.specs.declared.Act.{Act}
 use Rattle.plan.specs.declared.attempt.Got.{Got}
 use Rattle.plan.specs.declared.attempt.Got.the-variants.{Missing, Samples}
-use Rattle.plan.specs.declared.rounds.Round.{Round}
-use Rattle.plan.specs.declared.after.Moved.{Moved}
+use Rattle.plan.specs.declared.after.Next.{Next}
+use Rattle.plan.specs.declared.rounds.Step.{Step}
 use Rattle.plan.specs.declared.rounds.Plan.{Plan}
 
 -- the 32 bits are a signed number above 0
@@ -72,6 +72,11 @@ afterLoop q s w got =
 unfoldable pub spanOver : ℕ → ℕ → ℕ → Bool
 spanOver offset total got = leb total offset || eqb got 0
 
+-- the queue after a round, and whether another round may follow
+pub record Moved : Type 0 where
+  pub queue : Queue
+  pub going : Bool
+
 -- after samples of a span of total
 unfoldable pub afterGot : Queue → Source → WaveBuffer → ℕ → ℕ → Moved
 unfolding afterMissing afterLoop spanOver
@@ -82,6 +87,13 @@ afterGot q s w total got =
     (record { queue = afterLoop moved s w got; going = not (eqb got 0) })
     (record { queue = afterMissing moved; going = true }))
     (record { queue = moved; going = true })
+
+-- what a round leaves: the queue, the samples got, its act, and whether another may follow
+pub record Round : Type 0 where
+  pub queue : Queue
+  pub got : ℕ
+  pub act : Act
+  pub going : Bool
 
 -- what a decode makes of a round
 unfoldable pub roundOf : Queue → Source → WaveBuffer → ℕ → Act → Got → Round
@@ -134,6 +146,13 @@ unfoldable pub planOf : Queue → Source → ℕ → Planned
 unfolding rounds more hasTable
 planOf q s count = rounds 64 (more true q 0 count) s count (record { queue = q; acts = []; rounds = 0; done = 0; table = hasTable s })
 
--- what the code's plan says: of its 64 acts, as many as rounds
-abbrev pub planned : Plan → Planned
-planned r = record { queue = r .queue; acts = take (r .rounds) (r .acts); rounds = r .rounds; done = r .done; table = r .table }
+-- ---- what the code has of these: the wave buffers stand apart, and no act is kept
+
+abbrev pub movedAt : List WaveBuffer → Next → Moved
+movedAt b n = record { queue = queueAt b (n .spot); going = n .going }
+
+abbrev pub roundAt : List WaveBuffer → Step → Round
+roundAt b r = record { queue = queueAt b (r .spot); got = r .got; act = r .act; going = r .going }
+
+abbrev pub withoutActs : Planned → Plan
+withoutActs p = record { queue = p .queue; rounds = p .rounds; done = p .done; table = p .table }

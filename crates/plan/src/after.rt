@@ -1,14 +1,19 @@
-// What a round's samples make of the queue: the position moves on, a loop begins anew, or the buffer ends.
+// What a round's samples make of the spot: the position moves on, a loop begins anew, or the buffer ends.
+// `wb` is the buffer that plays, of any four (`b`) that have it there.
 ghost use mathlib.Core.Path.{_≡_};
 ghost use Prim.Native.Nat.{_<_};
-ghost use Rattle.plan.specs.Rounds.{loopsOver, resetsPlayed, afterMissing, endIf, afterLoop, spanOver, afterGot};
+ghost use mathlib.Core.List.{List};
+ghost use lib.ListN.{getD};
+ghost use Rattle.voice.specs.declared.wave.WaveBuffer.{WaveBuffer};
+ghost use Rattle.voice.specs.Queue.{noBuffer, queueAt};
+ghost use Rattle.plan.specs.Rounds.{loopsOver, resetsPlayed, afterMissing, endIf, afterLoop, spanOver, afterGot, movedAt};
 use crate::Source;
-use voice::Queue;
+use voice::Spot;
 use voice::WaveBuffer;
 
-// The queue, and whether another round may follow.
-pub struct Moved {
-    pub queue: Queue,
+// The spot, and whether another round may follow.
+pub struct Next {
+    pub spot: Spot,
     pub going: bool,
 }
 
@@ -32,36 +37,36 @@ fn loops_over(buffers_v2: bool, limit: u32, loops: u32, got: u32) -> bool
 }
 
 // A decode that is missing ends the buffer.
-pub fn after_missing(mut q: Queue) -> Queue
-    requires { ⌜ q .index < 4 ⌝ }
-    ensures { λ r. ⌜ r ≡ afterMissing q ⌝ }
+pub fn after_missing(mut p: Spot, wb: WaveBuffer) -> Spot
+    requires { ⌜ p .index < 4 ⌝ }
+    ensures { λ r. ⌜ ((b : List WaveBuffer) → getD b (p .index) noBuffer ≡ wb → queueAt b r ≡ afterMissing (queueAt b p)) ⌝ }
 {
-    q.offset = 0;
-    voice::end_buffer(q)
+    p.offset = 0;
+    voice::end_buffer(p, wb.end_of_stream)
 }
 
 // The buffer that plays has ended, where over says so.
-fn end_if(q: Queue, over: bool) -> Queue
-    requires { ⌜ q .index < 4 ⌝ }
-    ensures { λ r. ⌜ r ≡ endIf over q ⌝ }
+fn end_if(p: Spot, wb: WaveBuffer, over: bool) -> Spot
+    requires { ⌜ p .index < 4 ⌝ }
+    ensures { λ r. ⌜ ((b : List WaveBuffer) → getD b (p .index) noBuffer ≡ wb → queueAt b r ≡ endIf over (queueAt b p)) ⌝ }
 {
     if over {
-        return voice::end_buffer(q);
+        return voice::end_buffer(p, wb.end_of_stream);
     }
-    q
+    p
 }
 
 // The end of a looping buffer's span: one loop more, and the buffer's end where that was the last.
 // Where nothing was got no other round follows.
-fn after_loop(mut q: Queue, s: Source, wb: WaveBuffer, got: u32) -> Queue
-    requires { ⌜ q .index < 4 ⌝ }
-    ensures { λ r. ⌜ r ≡ afterLoop q s wb got ⌝ }
+fn after_loop(mut p: Spot, s: Source, wb: WaveBuffer, got: u32) -> Spot
+    requires { ⌜ p .index < 4 ⌝ }
+    ensures { λ r. ⌜ ((b : List WaveBuffer) → getD b (p .index) noBuffer ≡ wb → queueAt b r ≡ afterLoop (queueAt b p) s wb got) ⌝ }
 {
-    let loops = std::num::wrapping_add_u32(q.loops, 1);
+    let loops = std::num::wrapping_add_u32(p.loops, 1);
     let over = loops_over(s.buffers_v2, wb.loop_count, loops, got);
-    q.offset = 0;
-    q.loops = loops;
-    let mut ended = end_if(q, over);
+    p.offset = 0;
+    p.loops = loops;
+    let mut ended = end_if(p, wb, over);
     if resets(s.decoding, got) {
         ended.played = 0;
     }
@@ -78,27 +83,27 @@ fn resets(decoding: u32, got: u32) -> bool
     decoding % 2 != 0
 }
 
-// What the samples of a round, of a span of total, make of the queue.
-pub fn after_got(mut q: Queue, s: Source, wb: WaveBuffer, total: u32, got: u32) -> Moved
-    requires { ⌜ q .index < 4 ⌝ }
-    ensures { λ r. ⌜ r ≡ afterGot q s wb total got ⌝ }
+// What the samples of a round, of a span of total, make of the spot.
+pub fn after_got(mut p: Spot, s: Source, wb: WaveBuffer, total: u32, got: u32) -> Next
+    requires { ⌜ p .index < 4 ⌝ }
+    ensures { λ r. ⌜ ((b : List WaveBuffer) → getD b (p .index) noBuffer ≡ wb → movedAt b r ≡ afterGot (queueAt b p) s wb total got) ⌝ }
 {
-    q.offset = std::num::wrapping_add_u32(q.offset, got);
-    q.played = std::num::wrapping_add_u64(q.played, got as u64);
-    if span_over(q.offset, total, got) {
+    p.offset = std::num::wrapping_add_u32(p.offset, got);
+    p.played = std::num::wrapping_add_u64(p.played, got as u64);
+    if span_over(p.offset, total, got) {
         if wb.looping {
-            return Moved {
-                queue: after_loop(q, s, wb, got),
+            return Next {
+                spot: after_loop(p, s, wb, got),
                 going: got != 0,
             };
         }
-        return Moved {
-            queue: after_missing(q),
+        return Next {
+            spot: after_missing(p, wb),
             going: true,
         };
     }
-    Moved {
-        queue: q,
+    Next {
+        spot: p,
         going: true,
     }
 }

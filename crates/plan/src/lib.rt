@@ -7,7 +7,10 @@ mod rounds;
 pub use attempt::Attempt;
 pub use attempt::plan_decode;
 pub use rounds::Plan;
+pub use rounds::Step;
+pub use rounds::begins;
 pub use rounds::plan_fetch;
+pub use rounds::plan_round;
 ghost use mathlib.Core.Path.{_≡_};
 use adpcm::Sample;
 

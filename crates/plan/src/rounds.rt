@@ -2,29 +2,32 @@
 ghost use mathlib.Core.Path.{_≡_};
 ghost use mathlib.Core.Bool.{cond};
 ghost use Prim.Native.Nat.{_-_, _≤_, _<_, _^_, min};
-ghost use Rattle.plan.specs.Rounds.{isPositive, renewsOf, inLoop, roundPlan, more, hasTable, planned, planOf};
+ghost use mathlib.Core.List.{List};
+ghost use lib.ListN.{getD};
+ghost use Rattle.voice.specs.declared.wave.WaveBuffer.{WaveBuffer};
+ghost use Rattle.voice.specs.Queue.{noBuffer, queueAt};
+ghost use Rattle.plan.specs.Rounds.{isPositive, renewsOf, inLoop, roundPlan, more, hasTable, planOf, roundAt, withoutActs};
 use crate::Act;
-use crate::Decode;
 use crate::Source;
 use crate::after::after_got;
 use crate::after::after_missing;
 use crate::attempt::Got;
 use adpcm::Sample;
 use voice::Queue;
+use voice::Spot;
 use voice::WaveBuffer;
 
-// `table`: the coefficients can be read. `rounds` of the acts count.
+// What a fetch leaves: the queue, how many rounds it took, the samples got, and whether the coefficients can be read.
 pub struct Plan {
     pub queue: Queue,
-    pub acts: [Act; 64],
     pub rounds: u32,
     pub done: u32,
     pub table: bool,
 }
 
-// What a round leaves: the queue, the samples got, its act, and whether another may follow.
-pub struct Round {
-    pub queue: Queue,
+// What a round leaves: the spot, the samples got, its act, and whether another may follow.
+pub struct Step {
+    pub spot: Spot,
     pub got: u32,
     pub act: Act,
     pub going: bool,
@@ -94,22 +97,20 @@ fn either(test: bool, a: u32, b: u32) -> u32
     if test { a } else { b }
 }
 
-// One round, of at most left samples.
-fn plan_round(q: Queue, s: Source, left: u32) -> Round
-    requires { ⌜ q .index < 4 ⌝ }
+// One round, of at most left samples, of wb, the buffer that plays.
+pub fn plan_round(wb: WaveBuffer, p: Spot, s: Source, left: u32) -> Step
+    requires { ⌜ p .index < 4 ⌝ }
     requires { ⌜ (0 < s .channels) × (s .channels ≤ 6) ⌝ }
     requires { ⌜ left ≤ 2 ^ 16 ⌝ }
-    ensures { λ r. ⌜ r ≡ roundPlan q s left ⌝ }
+    ensures { λ r. ⌜ ((b : List WaveBuffer) → getD b (p .index) noBuffer ≡ wb → roundAt b r ≡ roundPlan (queueAt b p) s left) ⌝ }
 {
-    let at = q.index as usize;
-    let wb = q.buffers[at];
-    let renews = context_read(s, wb, q.offset);
-    let looped = in_loop(s.buffers_v2, wb, q.loops);
+    let renews = context_read(s, wb, p.offset);
+    let looped = in_loop(s.buffers_v2, wb, p.loops);
     let start = either(looped, wb.loop_start, wb.start);
     let end = either(looped, wb.loop_end, wb.end);
     let total = saturating_sub(end, start);
-    let want = least(left, saturating_sub(total, q.offset));
-    let pos = std::num::wrapping_add_u32(start, q.offset) as u64;
+    let want = least(left, saturating_sub(total, p.offset));
+    let pos = std::num::wrapping_add_u32(start, p.offset) as u64;
     let tried = crate::plan_decode(s, wb, Sample(pos), want);
     let decode = tried.decode;
     let act = Act {
@@ -119,17 +120,17 @@ fn plan_round(q: Queue, s: Source, left: u32) -> Round
     };
     let result = tried.got;
     match result {
-        Got::Missing => Round {
-            queue: after_missing(q),
+        Got::Missing => Step {
+            spot: after_missing(p, wb),
             got: 0,
             act,
             going: true,
         },
         Got::Samples(n) => {
-            let moved = after_got(q, s, wb, total, n);
-            let queue = moved.queue;
-            Round {
-                queue,
+            let moved = after_got(p, s, wb, total, n);
+            let spot = moved.spot;
+            Step {
+                spot,
                 got: n,
                 act,
                 going: moved.going,
@@ -139,9 +140,9 @@ fn plan_round(q: Queue, s: Source, left: u32) -> Round
 }
 
 // Whether a round begins: samples are wanted, and the buffer that plays is valid.
-fn begins(q: Queue, going: bool, done: u32, count: u32) -> bool
-    requires { ⌜ q .index < 4 ⌝ }
-    ensures { λ r. ⌜ r ≡ more going q done count ⌝ }
+pub fn begins(p: Spot, going: bool, done: u32, count: u32) -> bool
+    requires { ⌜ p .index < 4 ⌝ }
+    ensures { λ r. ⌜ ((b : List WaveBuffer) → r ≡ more going (queueAt b p) done count) ⌝ }
 {
     if !going {
         return false;
@@ -149,41 +150,34 @@ fn begins(q: Queue, going: bool, done: u32, count: u32) -> bool
     if count <= done {
         return false;
     }
-    let at = q.index as usize;
-    q.valid[at]
+    let at = p.index as usize;
+    p.valid[at]
 }
 
-// The plan of a fetch of count samples.
+// The plan of a fetch of count samples. Its acts are not kept: their sound is made by going through the rounds again (`sound::fetch_channel`).
 pub fn plan_fetch(q: Queue, s: Source, count: u32) -> Plan
     requires { ⌜ q .index < 4 ⌝ }
     requires { ⌜ (0 < s .channels) × (s .channels ≤ 6) ⌝ }
     requires { ⌜ count ≤ 2 ^ 16 ⌝ }
-    ensures { λ r. ⌜ planned r ≡ planOf q s count ⌝ }
+    ensures { λ r. ⌜ r ≡ withoutActs (planOf q s count) ⌝ }
 {
-    let idle = Act {
-        renews: false,
-        context: 0,
-        decode: Decode::Nothing,
-    };
-    let mut acts = [idle; 64];
-    let mut queue = q;
+    let buffers = q.buffers;
+    let mut spot = voice::spot_of(q);
     let mut done: u32 = 0;
     let mut rounds: u32 = 0;
-    let mut going = begins(queue, true, done, count);
+    let mut going = begins(spot, true, done, count);
     while rounds < 64 && going {
-        let r = plan_round(queue, s, count - done);
-        let k = rounds as usize;
-        let act = r.act;
-        acts[k] = act;
-        let next = r.queue;
-        queue = next;
+        let at = spot.index as usize;
+        let wb = buffers[at];
+        let r = plan_round(wb, spot, s, count - done);
+        let next = r.spot;
+        spot = next;
         done += r.got;
         rounds += 1;
         going = begins(next, r.going, done, count);
     }
     Plan {
-        queue,
-        acts,
+        queue: voice::queue_at(buffers, spot),
         rounds,
         done,
         table: table_read(s),

@@ -17,22 +17,29 @@ use Rattle.resample.specs.Defs.{resampled}
 use Rattle.voice.specs.declared.sound.History.{History}
 use Rattle.voice.specs.declared.sound.Sound.{Sound}
 use Rattle.plan.specs.declared.Source.{Source}
-use Rattle.plan.specs.declared.rounds.Plan.{Plan}
+use Rattle.voice.specs.declared.queue.Queue.{Queue}
+use Rattle.plan.specs.Rounds.{hasTable, planOf}
+use Rattle.plan.specs.Fits.{plan-table}
 use Rattle.sound.specs.Sound.{tableOf, performAll, rowOf}
 use Rattle.sound.specs.Perform.{fresh}
 use Rattle.sound.specs.Channel.{Ready, Fetched}
 use Rattle.playing.specs.Playing.{Material, deckOf, threeOf, channelRow, channelOut, outStep, tailOf, historyStep, soundStep, playedOut, playedHistory, playedSound}
 
 -- a row of another content is as ready
-pub ready-same : {p : Plan} {s : Source} {m : List ℕ} {row other : List Float} → length other ≡ length row → Ready p s m row → Ready p s m other
+pub ready-same : {q : Queue} {s : Source} {m : List ℕ} {row other : List Float} → length other ≡ length row → Ready q s m row → Ready q s m other
 ready-same e r = record {
   history = rw e (r .history);
-  rounds = r .rounds;
-  acts = r .acts;
-  fits = rw e (r .fits);
-  size = r .size;
+  long = rw e (r .long);
+  index = r .index;
+  some = r .some;
   channels = r .channels;
+  size = r .size;
 }
+
+-- the coefficients of a fetch
+pub table-made : (q : Queue) (s : Source) (m : List ℕ) (needed : ℕ) {table : List ℤ} → table ≡ tableOf (hasTable s) s m
+    → table ≡ tableOf (planOf q s needed .table) s m
+table-made q s m needed e = e ∙ (λ i. tableOf (sym (plan-table q s needed) i) s m)
 
 -- ---- one channel
 

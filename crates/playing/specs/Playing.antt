@@ -9,8 +9,8 @@ use Rattle.rows.specs.Folds.{upTo}
 use Rattle.resample.specs.Defs.{resampled}
 use Rattle.voice.specs.declared.sound.Sound.{Sound}
 use Rattle.plan.specs.declared.Source.{Source}
-use Rattle.plan.specs.declared.rounds.Plan.{Plan}
-use Rattle.plan.specs.Rounds.{Planned, planned}
+use Rattle.voice.specs.declared.queue.Queue.{Queue}
+use Rattle.plan.specs.Rounds.{Planned, planOf}
 use Rattle.sound.specs.Sound.{Deck, tableOf, performAll, rowOf}
 use Rattle.sound.specs.Perform.{fresh}
 
@@ -26,10 +26,10 @@ pub record Material : Type 0 where
   pub fraction : Float
   pub count : ℕ
 
--- the same of the code's plan
-abbrev pub material : Plan → Source → List ℕ → ℕ → Sound → Float → Float → ℕ → Material
-material plan s m needed sound ratio fraction n = record {
-  plan = planned plan;
+-- the same of a fetch from a queue
+abbrev pub material : Queue → Source → List ℕ → ℕ → Sound → Float → Float → ℕ → Material
+material q s m needed sound ratio fraction n = record {
+  plan = planOf q s needed;
   source = s;
   memory = m;
   needed = needed;

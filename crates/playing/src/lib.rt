@@ -1,8 +1,8 @@
 // The sound of a voice's turn (mixer.rs `render_voice`): each channel is fetched and resampled, and its last three samples are kept.
 use adpcm::AdpcmContext;
-use plan::Plan;
 use plan::Source;
 use voice::History;
+use voice::Queue;
 use voice::Sound;
 ghost use mathlib.Core.Path.{_≡_};
 ghost use mathlib.Core.Bool.{cond};
@@ -11,6 +11,7 @@ ghost use lib.Dec.{eqb};
 ghost use lib.ListN.{length};
 ghost use Rattle.rows.specs.Rows.{put};
 ghost use Rattle.resample.specs.Defs.{resampled};
+ghost use Rattle.plan.specs.Rounds.{hasTable};
 ghost use Rattle.sound.specs.Sound.{tableOf};
 ghost use Rattle.sound.specs.Channel.{Ready};
 ghost use Rattle.playing.specs.Playing.{material, threeOf, tailOf, outStep, soundStep, playedOut, playedSound};
@@ -59,10 +60,10 @@ fn hear(row: &[f32], ratio: f32, fraction: f32, n: u32, c: u32, out: &mut [f32])
 
 // Channel c, of the sound before: its row into src, what is heard of it into row c of out. Gives what is kept after it.
 fn play_channel(
-    plan: Plan,
+    q: Queue,
     s: Source,
     memory: &[u8],
-    table: &[i16; 16],
+    coefficients: &[i16; 16],
     before: Sound,
     kept: Sound,
     ratio: f32,
@@ -72,17 +73,16 @@ fn play_channel(
     src: &mut [f32],
     out: &mut [f32],
 ) -> Sound
-    requires { ⌜ Ready plan s (now memory) (now src) ⌝ }
-    requires { ⌜ length (now src) < 2 ^ 32 ⌝ }
-    requires { ⌜ now table ≡ tableOf (plan .table) s (now memory) ⌝ }
+    requires { ⌜ Ready q s (now memory) (now src) ⌝ }
+    requires { ⌜ now coefficients ≡ tableOf (hasTable s) s (now memory) ⌝ }
     requires { ⌜ (c < 6) × (n ≤ 256) × (c * n + n ≤ length (now out)) ⌝ }
-    ensures { λ r. ⌜ r ≡ soundStep (material plan s (now (memory .entry)) (length (now (src .entry)) - 3) before ratio fraction n) c kept ⌝ }
-    ensures { λ _. ⌜ now (out .exit) ≡ outStep (material plan s (now (memory .entry)) (length (now (src .entry)) - 3) before ratio fraction n) c (now (out .entry)) ⌝ }
+    ensures { λ r. ⌜ r ≡ soundStep (material q s (now (memory .entry)) (length (now (src .entry)) - 3) before ratio fraction n) c kept ⌝ }
+    ensures { λ _. ⌜ now (out .exit) ≡ outStep (material q s (now (memory .entry)) (length (now (src .entry)) - 3) before ratio fraction n) c (now (out .entry)) ⌝ }
 {
     let history = before.history;
     let adpcm = before.adpcm;
     let three = three_of(history, c);
-    let made = sound::fetch_channel(plan, s, memory, table, adpcm, three, c, src);
+    let made = sound::fetch_channel(q, s, memory, coefficients, adpcm, three, c, src);
     hear(src, ratio, fraction, n, c, out);
     let old = kept.history;
     let history = with_tail(old, c, src);
@@ -92,9 +92,11 @@ fn play_channel(
 }
 
 // Every channel of a voice: what is heard into out, one row of n behind the other. Gives the sound that the voice keeps.
+// `table`: the coefficients can be read.
 pub fn play_channels(
-    plan: Plan,
+    q: Queue,
     s: Source,
+    table: bool,
     memory: &[u8],
     sound: Sound,
     ratio: f32,
@@ -103,22 +105,21 @@ pub fn play_channels(
     src: &mut [f32],
     out: &mut [f32],
 ) -> Sound
-    requires { ⌜ Ready plan s (now memory) (now src) ⌝ }
-    requires { ⌜ length (now src) < 2 ^ 32 ⌝ }
-    requires { ⌜ (1 ≤ s .channels) × (s .channels ≤ 6) ⌝ }
+    requires { ⌜ Ready q s (now memory) (now src) ⌝ }
+    requires { ⌜ table ≡ hasTable s ⌝ }
     requires { ⌜ (s .channels * n ≤ length (now out)) × (n ≤ 256) ⌝ }
-    ensures { λ r. ⌜ r ≡ playedSound (material plan s (now (memory .entry)) (length (now (src .entry)) - 3) sound ratio fraction n) ⌝ }
-    ensures { λ _. ⌜ now (out .exit) ≡ playedOut (material plan s (now (memory .entry)) (length (now (src .entry)) - 3) sound ratio fraction n) (now (out .entry)) ⌝ }
+    ensures { λ r. ⌜ r ≡ playedSound (material q s (now (memory .entry)) (length (now (src .entry)) - 3) sound ratio fraction n) ⌝ }
+    ensures { λ _. ⌜ now (out .exit) ≡ playedOut (material q s (now (memory .entry)) (length (now (src .entry)) - 3) sound ratio fraction n) (now (out .entry)) ⌝ }
 {
-    let table = sound::coefficients(memory, s, plan.table);
+    let coefficients = sound::coefficients(memory, s, table);
     let mut kept = sound;
     let mut c: u32 = 0;
     while c < s.channels {
         kept = play_channel(
-            plan,
+            q,
             s,
             memory,
-            &table,
+            &coefficients,
             sound,
             kept,
             ratio,

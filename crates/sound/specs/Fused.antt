@@ -19,8 +19,7 @@ use Rattle.voice.specs.declared.queue.Queue.{Queue}
 use Rattle.plan.specs.declared.Source.{Source}
 use Rattle.plan.specs.declared.attempt.Got.{Got}
 use Rattle.plan.specs.declared.attempt.Got.the-variants.{Missing, Samples}
-use Rattle.plan.specs.declared.after.Moved.{Moved}
-use Rattle.plan.specs.Rounds.{inLoop, at}
+use Rattle.plan.specs.Rounds.{Moved, inLoop, at}
 use Rattle.sound.specs.Sound.{tableOf, pcmOf}
 
 -- each channel's row, by a function of the channel and the row

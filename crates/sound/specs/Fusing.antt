@@ -20,15 +20,13 @@ use Rattle.plan.specs.declared.Source.{Source}
 use Rattle.plan.specs.declared.Act.{Act}
 use Rattle.plan.specs.declared.attempt.Got.{Got}
 use Rattle.plan.specs.declared.attempt.Got.the-variants.{Missing, Samples}
-use Rattle.plan.specs.declared.rounds.Round.{Round}
-use Rattle.plan.specs.declared.after.Moved.{Moved}
 use Rattle.plan.specs.Attempt.{sample, decodePlan}
 use Rattle.plan.specs.Fits.{Fits, fits-none, fits-more, plan-made, plan-table}
-use Rattle.plan.specs.Rounds.{inLoop, at, renewsOf, loopsOver, resetsPlayed, resetIf, afterMissing, afterLoop, spanOver, afterGot, roundOf, roundPlan, more, Planned, grown, rounds, hasTable, planOf}
+use Rattle.plan.specs.Rounds.{Moved, Round, inLoop, at, renewsOf, loopsOver, resetsPlayed, resetIf, afterMissing, afterLoop, spanOver, afterGot, roundOf, roundPlan, more, Planned, grown, rounds, hasTable, planOf}
 use Rattle.sound.specs.Sound.{tableOf, Deck, perform, performAll, rowOf}
 use Rattle.sound.specs.Perform.{fresh}
 use Rattle.sound.specs.FusedDecode.{each-same, each-id, each-each, made, decode-same}
-use Rattle.sound.specs.Channel.{perform-after, perform-count}
+use Rattle.sound.specs.Channel.{perform-after, perform-count, all-after}
 use Rattle.sound.specs.Fused.{eachRow, Decoding, decodeFused, Fetching, Turn, loopFused, moveFused, turnOf, roundFused, headOf, roundsFused, resized, fetchFused}
 
 -- ---- the queue
@@ -118,17 +116,6 @@ module _ (s : Source) (m : List ℕ) (table : List ℤ) (size : s .size ≡ leng
 
   -- ---- the rounds
 
-  all-append : (c : ℕ) (acts : List Act) (a : Act) (k : Deck) → performAll s m table c (acts ++ (a ∷ [])) k ≡ perform s m table c a (performAll s m table c acts k)
-  unfolding performAll
-  all-append c [] a k = refl
-  all-append c (b ∷ acts) a k = all-append c acts a (perform s m table c b k)
-
-  -- one act more
-  all-after : (c : ℕ) (acts : List Act) (a : Act) (k : Deck)
-      → (let d = performAll s m table c acts k in
-      performAll s m table c (acts ++ (a ∷ [])) k ≡ record { adpcm = perform s m table c a (fresh (d .adpcm)) .adpcm; out = d .out ++ perform s m table c a (fresh (d .adpcm)) .out })
-  all-after c acts a k = let d = performAll s m table c acts k in all-append c acts a k ∙ perform-after s m table c a (d .adpcm) (d .out)
-
   module _ (x : AdpcmContext) (rows : List (List Float)) where
     -- the loop's state, by the plan so far
     abbrev stateOf : Planned → Fetching
@@ -145,14 +132,14 @@ module _ (s : Source) (m : List ℕ) (table : List ℤ) (size : s .size ≡ leng
         let r = roundPlan (p .queue) s (count - p .done) in
         let z : ℕ → AdpcmContext = λ c. performAll s m table c (p .acts) (fresh x) .adpcm in
         let after : (c : ℕ) (l : List Float) → (l ++ performAll s m table c (p .acts) (fresh x) .out) ++ perform s m table c (r .act) (fresh (z c)) .out ≡ l ++ performAll s m table c (p .acts ++ (r .act ∷ [])) (fresh x) .out =
-        λ c l. append-assoc l _ _ ∙ ap (λ (d : Deck). l ++ d .out) (sym (all-after c (p .acts) (r .act) (fresh x))) in
+        λ c l. append-assoc l _ _ ∙ ap (λ (d : Deck). l ++ d .out) (sym (all-after s m table c (p .acts) (r .act) (fresh x))) in
         let together = each-each (λ (c : ℕ) (l : List Float). l ++ perform s m table c (r .act) (fresh (z c)) .out) (λ (c : ℕ) (l : List Float). l ++ performAll s m table c (p .acts) (fresh x) .out) 0 rows
         ∙ each-same _ _ after 0 rows in
         round-same (stateOf p) z refl
         ∙ (λ i. record {
           state = record {
             queue = r .queue;
-            adpcm = sym (all-after 0 (p .acts) (r .act) (fresh x)) i .adpcm;
+            adpcm = sym (all-after s m table 0 (p .acts) (r .act) (fresh x)) i .adpcm;
             rows = together i;
             done = p .done + r .got;
             rounds = p .rounds + 1;

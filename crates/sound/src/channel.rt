@@ -1,19 +1,16 @@
-// A channel's row for the resampler: its history, the samples of the acts, zeros.
-ghost use mathlib.Core.Path.{_≡_};
+// A channel's row for the resampler: its history, the samples of the rounds, zeros.
 ghost use Prim.Native.Nat.{_-_};
-ghost use lib.ListN.{length, take};
-ghost use Rattle.sound.specs.Sound.{performAll};
-ghost use Rattle.sound.specs.Perform.{fresh};
-ghost use Rattle.sound.specs.Channel.{Ready, Fetched};
+ghost use lib.ListN.{length};
+ghost use Rattle.sound.specs.Channel.{Ready, FetchedBy};
 use crate::act::play;
 use crate::pcm::zeros_from;
 use adpcm::AdpcmContext;
-use plan::Plan;
 use plan::Source;
+use voice::Queue;
 
-// The sound of a plan of count samples for channel c, into a row of 3 + count.
+// The sound of a fetch of count samples for channel c, into a row of 3 + count: the rounds of its plan, each with its act performed.
 pub fn fetch_channel(
-    plan: Plan,
+    q: Queue,
     s: Source,
     memory: &[u8],
     coefficients: &[i16; 16],
@@ -22,24 +19,35 @@ pub fn fetch_channel(
     c: u32,
     out: &mut [f32],
 ) -> AdpcmContext
-    requires { ⌜ Ready plan s (now memory) (now out) ⌝ }
-    ensures { λ r. ⌜ Fetched history (length (now (out .entry)) - 3) (plan .done) (performAll s (now (memory .entry)) (now (coefficients .entry)) c (take (plan .rounds) (plan .acts)) (fresh adpcm)) (now (out .exit)) r ⌝ }
+    requires { ⌜ Ready q s (now memory) (now out) ⌝ }
+    ensures { λ r. ⌜ FetchedBy q s (now (memory .entry)) (now (coefficients .entry)) c adpcm history
+        (length (now (out .entry)) - 3) (now (out .exit)) r ⌝ }
 {
     out[0] = history[0];
     out[1] = history[1];
     out[2] = history[2];
+    let count = (out.len() - 3) as u32;
+    let buffers = q.buffers;
+    let mut spot = voice::spot_of(q);
     let mut x = adpcm;
-    let mut at = 3usize;
-    let mut k: u32 = 0;
-    while k < plan.rounds {
-        let i = k as usize;
-        let a = plan.acts[i];
-        let p = play(a, s, memory, coefficients, x, c, out, at);
+    let mut done: u32 = 0;
+    let mut rounds: u32 = 0;
+    let mut going = plan::begins(spot, true, done, count);
+    while rounds < 64 && going {
+        let b = spot.index as usize;
+        let wb = buffers[b];
+        let r = plan::plan_round(wb, spot, s, count - done);
+        let act = r.act;
+        let p = play(act, s, memory, coefficients, x, c, out, 3 + done as usize);
         let left = p.adpcm;
         x = left;
-        at += p.made;
-        k += 1;
+        let next = r.spot;
+        spot = next;
+        done += r.got;
+        rounds += 1;
+        going = plan::begins(next, r.going, done, count);
     }
+    let at = 3 + done as usize;
     zeros_from(out, at);
     x
 }

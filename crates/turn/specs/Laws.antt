@@ -1,20 +1,20 @@
 -- What holds of a turn: how many samples and rounds it takes at most, and that the voice after it can take another. Assumes nothing.
 use Prim.Native.Nat.{ℕ, _≤_, _<_}
 use mathlib.Core.Bool.{cond}
-use mathlib.Core.Path.{_≡_, sym, _∙_}
+use mathlib.Core.Path.{_≡_, _∙_}
 use lib.Dec.{T}
 use lib.Ieee.{le}
 use Rattle.floats.specs.Defs.{zero32, one, sixteen}
 use Rattle.floats.specs.Bounds.{ratio-in}
 use Rattle.floats.specs.Unit.{inUnit}
 use Rattle.resample.specs.Range.{needed-le, next-unit}
-use Rattle.plan.specs.Rounds.{planned, planOf}
-use Rattle.plan.specs.Fits.{plan-rounds, index-lt}
+use Rattle.plan.specs.Rounds.{hasTable}
+use Rattle.plan.specs.Fits.{plan-rounds, plan-table, index-lt}
 use Rattle.voice.specs.declared.Voice.{Voice}
 use Rattle.voice.specs.Voice.{queueOf}
 use Rattle.turn.specs.declared.Render.{Render}
 use Rattle.turn.specs.declared.Turn.{Turn}
-use Rattle.turn.specs.Turn.{skipsConversion, speedOf, ratioOf, sourceOf, neededBy, plannedBy, fractionOf, finished, turnOf, seen}
+use Rattle.turn.specs.Turn.{skipsConversion, speedOf, ratioOf, sourceOf, neededBy, plannedBy, fractionOf, finished, turnOf, told}
 
 -- the ratio is in [0, 16]
 pub ratio-range : (rate : ℕ) (v : Voice) → T (le zero32 (ratioOf rate v)) × T (le (ratioOf rate v) sixteen)
@@ -39,7 +39,7 @@ module _ (v : Voice) (r : Render) where
   unfolding turnOf finished plannedBy
   index-kept = index-lt (queueOf v) (sourceOf v r) (neededBy v r)
 
--- the plan of the code's turn, as a fetch's
-pub turn-plan : (v : Voice) (r : Render) (t : Turn) → seen t ≡ turnOf v r → planned (t .plan) ≡ planOf (queueOf v) (sourceOf v r) (t .needed)
+-- whether the coefficients can be read, as the code's turn says
+pub turn-table : (v : Voice) (r : Render) (t : Turn) → t ≡ told (turnOf v r) → t .plan .table ≡ hasTable (sourceOf v r)
 unfolding turnOf plannedBy
-turn-plan v r t e = (λ i. e i .plan) ∙ (λ i. planOf (queueOf v) (sourceOf v r) (sym e i .needed))
+turn-table v r t e = (λ i. e i .plan .table) ∙ plan-table (queueOf v) (sourceOf v r) (neededBy v r)

@@ -9,9 +9,11 @@ use Rattle.voice.specs.declared.queue.Queue.{Queue}
 use Rattle.voice.specs.declared.Voice.{Voice}
 use Rattle.voice.specs.Voice.{queueOf}
 use Rattle.plan.specs.declared.Source.{Source}
-use Rattle.plan.specs.Rounds.{Planned, planOf}
+use Rattle.plan.specs.declared.rounds.Plan.{Plan}
+use Rattle.plan.specs.Rounds.{planOf, withoutActs}
 use Rattle.turn.specs.declared.Render.{Render}
-use Rattle.turn.specs.Turn.{with, ratioOf, sourceOf, neededBy, plannedBy, previousOf, fractionOf, finished, Turned, turnOf}
+use Rattle.turn.specs.declared.Turn.{Turn}
+use Rattle.turn.specs.Turn.{with, ratioOf, sourceOf, neededBy, plannedBy, previousOf, fractionOf, finished, turnOf, told}
 use Rattle.turn.specs.Laws.{needed-few}
 
 -- a ratio, and the samples that it needs
@@ -25,14 +27,14 @@ module _ (v : Voice) (r : Render) {ratio : Float} {n : ℕ} (hr : ratio ≡ rati
   needed-upto f l = rw needed-is (needed-few v r f l)
 
   -- with the queue, the source, their plan, the next fraction and the previous volume, a turn
-  pub turn-made : {q : Queue} {s : Source} {p : Planned} {next previous : Float} {w : Voice} → q ≡ queueOf v → s ≡ sourceOf v r → p ≡ planOf q s n
+  pub turn-made : {q : Queue} {s : Source} {p : Plan} {next previous : Float} {w : Voice} → q ≡ queueOf v → s ≡ sourceOf v r → p ≡ withoutActs (planOf q s n)
       → next ≡ nextOf (v .fraction) ratio (r .«sample_count») → previous ≡ previousOf v → w ≡ with (v .fresh) previous (p .queue) next v
-      → _≡_ {A = Turned}
+      → _≡_ {A = Turn}
       (record { voice = w; plan = p; ratio = ratio; fraction = v .fraction; needed = n; from = v .«previous_volume»; to = v .volume })
-      (turnOf v r)
+      (told (turnOf v r))
   unfolding turnOf finished plannedBy fractionOf
   turn-made hq hs hp hx hv hw =
-      let p′ = hp ∙ (λ i. planOf (hq i) (hs i) (needed-is i)) in
+      let p′ = hp ∙ (λ i. withoutActs (planOf (hq i) (hs i) (needed-is i))) in
       let x′ = hx ∙ (λ i. nextOf (v .fraction) (hr i) (r .«sample_count»)) in
       let w′ = hw ∙ (λ i. with (v .fresh) (hv i) (p′ i .queue) (x′ i) v) in
       λ i. record { voice = w′ i; plan = p′ i; ratio = hr i; fraction = v .fraction; needed = needed-is i; from = v .«previous_volume»; to = v .volume }

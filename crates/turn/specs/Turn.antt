@@ -12,7 +12,7 @@ use Rattle.voice.specs.declared.ready.Prepared.{Prepared}
 use Rattle.voice.specs.Prepare.{prepareOf}
 use Rattle.voice.specs.Voice.{hasDestination, queueOf}
 use Rattle.plan.specs.declared.Source.{Source}
-use Rattle.plan.specs.Rounds.{Planned, planned, planOf}
+use Rattle.plan.specs.Rounds.{Planned, planOf, withoutActs}
 use Rattle.turn.specs.declared.Render.{Render}
 use Rattle.turn.specs.declared.Turn.{Turn}
 
@@ -144,6 +144,14 @@ turnOf v r = record {
   to = v .volume;
 }
 
--- what the code's turn says
-abbrev pub seen : Turn → Turned
-seen t = record { voice = t .voice; plan = planned (t .plan); ratio = t .ratio; fraction = t .fraction; needed = t .needed; from = t .from; to = t .to }
+-- what the code's turn says of it: all but the acts
+abbrev pub told : Turned → Turn
+told t = record {
+  voice = t .voice;
+  plan = withoutActs (t .plan);
+  ratio = t .ratio;
+  fraction = t .fraction;
+  needed = t .needed;
+  from = t .from;
+  to = t .to;
+}

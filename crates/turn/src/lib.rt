@@ -10,7 +10,7 @@ ghost use Prim.Native.Nat.{_≤_, _<_, max};
 ghost use lib.Dec.{T};
 ghost use Rattle.floats.specs.Unit.{inUnit};
 ghost use Rattle.resample.specs.Defs.{nextOf};
-ghost use Rattle.turn.specs.Turn.{takesPart, with, freshened, beginOf, skipsConversion, speedOf, ratioOf, sourceOf, neededBy, previousOf, turnOf, seen};
+ghost use Rattle.turn.specs.Turn.{takesPart, with, freshened, beginOf, skipsConversion, speedOf, ratioOf, sourceOf, neededBy, previousOf, turnOf, told};
 
 // What a render gives to each voice: its samples, the renderer's rate, whether the revision is 8 or later, and sample memory's base and length.
 pub struct Render {
@@ -152,7 +152,7 @@ pub fn plan_turn(v: Voice, r: Render) -> Turn
     requires { ⌜ (1 ≤ v .channels) × (v .channels ≤ 6) ⌝ }
     requires { ⌜ r .«sample_count» ≤ 256 ⌝ }
     requires { ⌜ T (inUnit (v .fraction)) ⌝ }
-    ensures { λ t. ⌜ seen t ≡ turnOf v r ⌝ }
+    ensures { λ t. ⌜ t ≡ told (turnOf v r) ⌝ }
 {
     let ratio = ratio(v, r.sample_rate);
     let needed = resample::needed(v.fraction, ratio, r.sample_count) as u32;

@@ -2,9 +2,11 @@
 use Prim.Native.Nat.{ℕ, _+_, _-_, _%_, _^_}
 use mathlib.Core.Bool.{false, cond}
 use mathlib.Core.Path.{_≡_, refl}
+use mathlib.Core.List.{List}
 use lib.ListN.{getD, set}
 use Rattle.voice.specs.declared.wave.WaveBuffer.{WaveBuffer}
 use Rattle.voice.specs.declared.queue.Queue.{Queue}
+use Rattle.voice.specs.declared.queue.Spot.{Spot}
 
 -- a wave buffer of zeros, as a new voice has four
 abbrev pub noBuffer : WaveBuffer
@@ -24,6 +26,22 @@ noBuffer = record {
 
 abbrev pub bufferAt : Queue → ℕ → WaveBuffer
 bufferAt q k = getD (q .buffers) k noBuffer
+
+-- where a queue plays
+abbrev pub spotOf : Queue → Spot
+spotOf q = record { valid = q .valid; index = q .index; consumed = q .consumed; offset = q .offset; played = q .played; loops = q .loops }
+
+-- the queue of some wave buffers that plays at a spot
+abbrev pub queueAt : List WaveBuffer → Spot → Queue
+queueAt b p = record {
+  buffers = b;
+  valid = p .valid;
+  index = p .index;
+  consumed = p .consumed;
+  offset = p .offset;
+  played = p .played;
+  loops = p .loops;
+}
 
 abbrev pub nextSlot : ℕ → ℕ
 nextSlot slot = (slot + 1) % 4

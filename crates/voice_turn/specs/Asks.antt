@@ -18,7 +18,7 @@ use Rattle.voice_rows.specs.VoiceRow.{wordsOf, floatsOf}
 use Rattle.voice_sends.specs.Sending.{Ids}
 use Rattle.turn.specs.declared.Render.{Render}
 use Rattle.turn.specs.declared.Turn.{Turn}
-use Rattle.turn.specs.Turn.{neededBy, turnOf, seen}
+use Rattle.turn.specs.Turn.{neededBy, turnOf, told}
 use Rattle.turn.specs.Laws.{needed-few}
 use Rattle.state_voices.specs.StateVoices.{Playing}
 use Rattle.state_voices.specs.Keeps.{OnlyVoice, only-voice}
@@ -38,7 +38,8 @@ pub record Room (p : Params) (out : List Float) : Type 0 where
 
 -- the sound of a turn t: it is that of the voice, and there is room for a row of samples in src and for each channel's in out
 pub record Sounding (t : Turn) (v : Voice) (r : Render) (m : List ℕ) (src out : List Float) : Type 0 where
-  pub turn : seen t ≡ turnOf v r
+  pub turn : t ≡ told (turnOf v r)
+  pub index : v .index < 4
   pub some : 1 ≤ v .channels
   pub few : v .channels ≤ 6
   pub fraction : T (inUnit (v .fraction))
@@ -88,12 +89,13 @@ module _ {p : Params} {r : Render} {m : List ℕ} {k : ℕ} {st : State} {v : Vo
   unfolding turnOf
   needed-upto = needed-few v r (q .playing .fraction) samples-few
 
-  pub sounding-of : {t : Turn} {src : List Float} → seen t ≡ turnOf v r → 3 + neededBy v r ≤ length src → Sounding t v r m src out
+  pub sounding-of : {t : Turn} {src : List Float} → t ≡ told (turnOf v r) → 3 + neededBy v r ≤ length src → Sounding t v r m src out
   unfolding turnOf
   sounding-of {t = t} e h =
       let n : t .needed ≡ neededBy v r = λ i. e i .needed in
       record {
         turn = e;
+        index = q .playing .index;
         some = q .some;
         few = q .playing .channels;
         fraction = q .playing .fraction;

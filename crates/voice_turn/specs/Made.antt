@@ -2,7 +2,7 @@
 use mathlib.Core.Path.{_≡_, ap, sym, subst, _∙_}
 use mathlib.Core.Bool.{Bool, true, false}
 use mathlib.Core.List.{List}
-use Prim.Native.Nat.{ℕ, _+_, _-_, _*_, _≤_}
+use Prim.Native.Nat.{ℕ, _+_, _*_, _≤_, _<_}
 use native.Mathlib.Nat.{mul-le-mul-right}
 use native.Mathlib.Omega.{arith}
 use lib.Ieee.{Float}
@@ -13,17 +13,18 @@ use Rattle.params.specs.declared.params.Params.{Params}
 use Rattle.state.specs.State.{State, stateOf}
 use Rattle.voice.specs.declared.Voice.{Voice}
 use Rattle.voice.specs.declared.sound.Sound.{Sound}
+use Rattle.voice.specs.declared.queue.Queue.{Queue}
 use Rattle.voice.specs.Voice.{queueOf}
 use Rattle.voice_rows.specs.VoiceRow.{wordsOf, longsOf, floatsOf}
 use Rattle.sound_rows.specs.SoundRow.{contextsOf, historyOf}
 use Rattle.voice_sends.specs.Sending.{rampedRows}
 use Rattle.plan.specs.declared.Source.{Source}
-use Rattle.plan.specs.Rounds.{planOf}
-use Rattle.sound.specs.Channel.{Ready, plan-ready}
+use Rattle.plan.specs.Rounds.{hasTable, planOf}
+use Rattle.sound.specs.Channel.{Ready}
 use Rattle.turn.specs.declared.Render.{Render}
 use Rattle.turn.specs.declared.Turn.{Turn}
-use Rattle.turn.specs.Turn.{sourceOf, turnOf, seen}
-use Rattle.turn.specs.Laws.{turn-plan, needed-few}
+use Rattle.turn.specs.Turn.{sourceOf, plannedBy, turnOf, told}
+use Rattle.turn.specs.Laws.{turn-table, needed-few}
 use Rattle.playing.specs.Playing.{Material, material, playedSound}
 use Rattle.hearing.specs.Hearing.{soundIn, heardOut}
 use Rattle.sending.specs.Sending.{routeOut, routedFloats}
@@ -32,13 +33,14 @@ use Rattle.voice_turn.specs.Asks.{Sounding}
 
 -- ---- the sound of a turn
 
-module _ {t : Turn} {v : Voice} {r : Render} {m : List ℕ} {src out : List Float} (q : Sounding t v r m src out) {s : Source} (es : s ≡ sourceOf v r) where
-  pub material-made : (sound : Sound) → material (t .plan) s m (t .needed) sound (t .ratio) (t .fraction) (r .«sample_count») ≡ materialOf r m v sound
-  unfolding materialOf
+module _ {t : Turn} {v : Voice} {r : Render} {m : List ℕ} {src out : List Float} (q : Sounding t v r m src out)
+    {s : Source} (es : s ≡ sourceOf v r) {u : Queue} (eu : u ≡ queueOf v) where
+  pub material-made : (sound : Sound) → material u s m (t .needed) sound (t .ratio) (t .fraction) (r .«sample_count») ≡ materialOf r m v sound
+  unfolding materialOf turnOf plannedBy
   material-made sound =
       let e = q .turn in
       λ i. record {
-        plan = e i .plan;
+        plan = planOf (eu i) (es i) (e i .needed);
         source = es i;
         memory = m;
         needed = e i .needed;
@@ -49,7 +51,7 @@ module _ {t : Turn} {v : Voice} {r : Render} {m : List ℕ} {src out : List Floa
       }
 
   pub heard-made : (sound : Sound) (o : List Float)
-      → take (s .channels * r .«sample_count») o ≡ heardOut (material (t .plan) s m (t .needed) sound (t .ratio) (t .fraction) (r .«sample_count»))
+      → take (s .channels * r .«sample_count») o ≡ heardOut (material u s m (t .needed) sound (t .ratio) (t .fraction) (r .«sample_count»))
       → take (v .channels * r .«sample_count») o ≡ heardOut (materialOf r m v sound)
   heard-made sound o h = (λ i. take (sym es i .channels * r .«sample_count») o) ∙ h ∙ ap heardOut (material-made sound)
 
@@ -60,19 +62,23 @@ module _ {t : Turn} {v : Voice} {r : Render} {m : List ℕ} {src out : List Floa
       rw n (needed-few v r (q .fraction) (q .samples))
 
   -- it can be played in a row with room
-  pub turn-ready : Ready (t .plan) s m (take (3 + t .needed) src)
+  pub turn-ready : Ready u s m (take (3 + t .needed) src)
   turn-ready =
       let long : length (take (3 + t .needed) src) ≡ 3 + t .needed = length-take-le (3 + t .needed) src (q .row) in
-      let row : t .needed ≡ length (take (3 + t .needed) src) - 3 = omega (arith, long) in
-      let p = turn-plan v r t (q .turn) ∙ (λ i. planOf (queueOf v) (sym es i) (row i)) in
-      plan-ready (t .plan) (queueOf v) s m (take (3 + t .needed) src) p (omega (arith, long)) ((λ i. es i .size) ∙ q .memory)
-      (subst (λ (x : Source). x .channels ≤ 6) (sym es) (q .few))
+      record {
+        history = omega (arith, long);
+        long = omega (arith, long, needed-upto);
+        index = subst (λ (x : Queue). x .index < 4) (sym eu) (q .index);
+        some = subst (λ (x : Source). 1 ≤ x .channels) (sym es) (q .some);
+        channels = subst (λ (x : Source). x .channels ≤ 6) (sym es) (q .few);
+        size = (λ i. es i .size) ∙ q .memory;
+      }
 
-  pub turn-channels : (1 ≤ s .channels) × (s .channels ≤ 6)
-  turn-channels = subst (λ (x : Source). (1 ≤ x .channels) × (x .channels ≤ 6)) (sym es) (q .some, q .few)
+  pub table-told : t .plan .table ≡ hasTable s
+  table-told = turn-table v r t (q .turn) ∙ (λ i. hasTable (sym es i))
 
   pub turn-rows : s .channels * r .«sample_count» ≤ length out
-  turn-rows = omega (arith, q .rows, mul-le-mul-right (r .«sample_count») (turn-channels .1))
+  turn-rows = omega (arith, q .rows, mul-le-mul-right (r .«sample_count») (turn-ready .channels))
 
 -- ---- by whether it has a destination
 
@@ -95,7 +101,7 @@ module _ (p : Params) (v : Voice) (out : List Float) (words : List ℕ) (floats 
 
 -- ---- the turn of a voice that is ready
 
-module _ (p : Params) (r : Render) (m : List ℕ) (k : ℕ) (v : Voice) (st : State) (buffers : List Float) (t : Turn) (e : seen t ≡ turnOf v r) where
+module _ (p : Params) (r : Render) (m : List ℕ) (k : ℕ) (v : Voice) (st : State) (buffers : List Float) (t : Turn) (e : t ≡ told (turnOf v r)) where
   -- what was heard, in the first rows of out
   ramped-made : (out : List Float) (w : Material) → r .«sample_count» ≡ p .«sample_count» → take (v .channels * r .«sample_count») out ≡ heardOut w
       → routeOut (t .from) (t .to) (p .«sample_count») (v .channels) out ≡ rampedOut p r v w

@@ -37,10 +37,10 @@ fn hear_turn(
     ensures { λ _. ⌜ take (v .channels * r .«sample_count») (now (out .exit)) ≡ heardOut (materialOf r (now (memory .entry)) v (soundIn k (now (contexts .entry)) (now (history .entry)))) ⌝ }
 {
     let s = turn::source_of(v, r);
-    let plan = t.plan;
     hearing::hear(
-        plan,
+        voice::queue_of(v),
         s,
+        t.plan.table,
         memory,
         t.ratio,
         t.fraction,

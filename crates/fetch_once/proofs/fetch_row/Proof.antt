@@ -1,6 +1,5 @@
 -- `fetch_once::fetch_row` meets what a fetch requires by its own tests: the plan is of as many samples as the row has room for. Assumes nothing.
 use native.Mathlib.Omega.{arith}
-use Rattle.sound.specs.Channel.{plan-ready}
 use borrow.Author.Needs.{needs}
 use Rattle.fetch_once.proofs.fetch_row.Statement.{statement}
 use Rattle.fetch_once.proofs.fetch_row.Tie as tie
@@ -37,8 +36,7 @@ coefficients-requires c κs = search needs
 
 fetch-channel-requires : tie.Need-fetch-channel-requires
 fetch-channel-requires c κs =
-    let a = c .before .before .before .before .before .before .before .before .before .before .before .before .before .before .before .before .args in
-    plan-ready (c .before .before .before .plan-fetch .result) (a .q) (a .s) (a .memory .now) (a .out .now) (c .before .before .before .plan-fetch .ensures) (omega arith) (omega arith) (omega arith)
+    record { history = omega arith; long = omega arith; index = omega arith; some = omega arith; channels = omega arith; size = omega arith }
 
 same-length : tie.Need-same-length
 same-length c = search needs

@@ -20,7 +20,7 @@ rows-long s = length-take-le _ _ (s .pre .1 .1 .1 .1)
 
 -- six rows of 256 at most
 few : (s : tie.Start) → s .args .s .channels * s .args .n ≤ 1536
-few s = mul-le-mul (s .pre .1 .1 .0 .1) (s .pre .1 .1 .1 .0)
+few s = mul-le-mul (s .pre .0 .channels) (s .pre .1 .1 .1 .0)
 
 mul-rows : tie.Need-mul-rows
 mul-rows c = omega (arith, few (c .before .before .before .before))
@@ -37,11 +37,11 @@ slice-aggregate-play-channels-2 c = sym (rows-long (c .before .before .before .b
 play-channels-requires : tie.Need-play-channels-requires
 play-channels-requires c κs =
     let s = c .before .before .before .before .before .before in
-    (s .pre .0, (omega (arith, row-long s, s .pre .1 .0 .1), (s .pre .1 .1 .0, (omega (arith, rows-long s), s .pre .1 .1 .1 .0))))
+    (s .pre .0, (s .pre .1 .1 .0, (omega (arith, rows-long s), s .pre .1 .1 .1 .0)))
 
 -- what the sound is made from, if `needed` samples are
 abbrev from : tie.Start → ℕ → Material
-from s needed = material (s .args .plan) (s .args .s) (s .args .memory .now) needed (s .args .sound) (s .args .ratio) (s .args .fraction) (s .args .n)
+from s needed = material (s .args .q) (s .args .s) (s .args .memory .now) needed (s .args .sound) (s .args .ratio) (s .args .fraction) (s .args .n)
 
 returns : tie.Need-returns
 returns c =

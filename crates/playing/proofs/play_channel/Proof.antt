@@ -4,7 +4,7 @@ use native.Mathlib.Omega.{arith}
 use mathlib.Core.Path.{_≡_}
 use lib.ListN.{length}
 use Rattle.playing.specs.Playing.{material}
-use Rattle.playing.specs.Channels.{kept-made, heard-made}
+use Rattle.playing.specs.Channels.{table-made, kept-made, heard-made}
 use borrow.Author.Needs.{needs}
 use Rattle.playing.proofs.play_channel.Statement.{statement}
 use Rattle.playing.proofs.play_channel.Tie as tie
@@ -29,7 +29,7 @@ hear-requires c κs = search needs
 with-tail-requires : tie.Need-with-tail-requires
 with-tail-requires c κs =
     let p = c .before .before .before .before .before .before .before .before .before in
-    (start p .pre .1 .1 .1 .0, omega (arith, same p, start p .pre .0 .history))
+    (start p .pre .1 .1 .0, omega (arith, same p, start p .pre .0 .history))
 
 context-after-requires : tie.Need-context-after-requires
 context-after-requires c κs = search needs
@@ -46,8 +46,8 @@ returns c =
     let p = p7 .before .before .before .before .before in
     let s = start p in
     let a = s .args in
-    let w = material (a .plan) (a .s) (a .memory .now) (length (a .src .now) - 3) (a .before) (a .ratio) (a .fraction) (a .n) in
-    let t = s .pre .1 .1 .0 in
+    let w = material (a .q) (a .s) (a .memory .now) (length (a .src .now) - 3) (a .before) (a .ratio) (a .fraction) (a .n) in
+    let t = table-made (a .q) (a .s) (a .memory .now) (length (a .src .now) - 3) (s .pre .1 .0) in
     let h = p .before .before .three-of .ensures in
     let f = p .fetch-channel .ensures in (
       kept-made w (a .c) t h f (a .kept) (λ i. same p i - 3) (c .before .before .with-tail .ensures) (c .context-after .ensures),

@@ -1,8 +1,9 @@
 -- `playing::play_channels` meets its contract: after each channel, what is kept and heard is that of the channels so far. Assumes nothing.
 use Prim.Native.Nat.{ℕ, _-_}
 use native.Mathlib.Omega.{arith}
-use mathlib.Core.Path.{ap}
+use mathlib.Core.Path.{ap, _∙_}
 use lib.ListN.{length}
+use Rattle.sound.specs.Sound.{tableOf}
 use Rattle.playing.specs.Playing.{material}
 use Rattle.playing.specs.Channels.{ready-same, Sounding, sounding-none, sounding-room, sounding-more, sounding-heard, sounding-kept}
 use borrow.Author.Needs.{needs}
@@ -10,10 +11,10 @@ use Rattle.playing.proofs.play_channels.Statement.{statement}
 use Rattle.playing.proofs.play_channels.Tie as tie
 
 abbrev Inv-loop : tie.InvT-loop
-Inv-loop plan s memory sound ratio fraction n src₀ out₀ table kept₀ c₀ src out kept c = Sounding (material plan s memory (length src₀ - 3) sound ratio fraction n) src₀ out₀ src out kept c
+Inv-loop q s table memory sound ratio fraction n src₀ out₀ coefficients kept₀ c₀ src out kept c = Sounding (material q s memory (length src₀ - 3) sound ratio fraction n) src₀ out₀ src out kept c
 
 abbrev μ-loop : tie.MeasureT-loop
-μ-loop plan s memory sound ratio fraction n src₀ out₀ table kept₀ c₀ src out kept c = s .channels - c
+μ-loop q s table memory sound ratio fraction n src₀ out₀ coefficients kept₀ c₀ src out kept c = s .channels - c
 
 coefficients-requires : tie.Need-coefficients-requires Inv-loop μ-loop
 coefficients-requires c κs = search needs
@@ -29,14 +30,11 @@ play-channel-requires c κs =
     let p = p5 .loop .inv in (
       ready-same (p .row) (s .pre .0),
       (
-        omega (arith, p .row, s .pre .1 .0),
+        p5 .before .coefficients .ensures ∙ (λ i. tableOf (s .pre .1 .0 i) (s .args .s) (s .args .memory .now)),
         (
-          p5 .before .coefficients .ensures,
-          (
-            omega (arith, p3 .if1 .taken, s .pre .1 .1 .0),
-            s .pre .1 .1 .1 .1,
-            sounding-room p (p3 .if1 .taken) (s .pre .1 .1 .1 .0),
-          ),
+          omega (arith, p3 .if1 .taken, s .pre .0 .channels),
+          s .pre .1 .1 .1,
+          sounding-room p (p3 .if1 .taken) (s .pre .1 .1 .0),
         ),
       ),
     )
@@ -54,7 +52,7 @@ loop-again c =
     let p10 = p8 .before .before in
     let a = p10 .before .before .before .before .before .args in
     let p = p10 .loop .inv in
-    sounding-more p (p8 .if1 .taken) (ap (λ (l : ℕ). material (a .plan) (a .s) (a .memory .now) (l - 3) (a .sound) (a .ratio) (a .fraction) (a .n)) (p .row))
+    sounding-more p (p8 .if1 .taken) (ap (λ (l : ℕ). material (a .q) (a .s) (a .memory .now) (l - 3) (a .sound) (a .ratio) (a .fraction) (a .n)) (p .row))
     (p4 .play-channel .ensures .0) (p4 .play-channel .ensures .1)
     (p4 .play-channel .kept .1 .1 .1 .1 .1 .1 .1 .1 .1 .1 .0) (p4 .play-channel .kept .1 .1 .1 .1 .1 .1 .1 .1 .1 .1 .1 .0)
 
@@ -68,7 +66,7 @@ returns : tie.Need-returns Inv-loop μ-loop
 returns c =
     let p = c .before .before .loop .inv in
     let s = c .before .before .before .before .before .before .before in
-    (sounding-kept p (c .if1 .left) (s .pre .1 .1 .0 .0), sounding-heard p (c .if1 .left))
+    (sounding-kept p (c .if1 .left) (s .pre .0 .some), sounding-heard p (c .if1 .left))
 
 pub play-channels-spec : {M : Type 1} → statement M
 play-channels-spec =

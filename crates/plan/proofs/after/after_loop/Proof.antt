@@ -1,6 +1,7 @@
 -- `plan::after_loop` meets its contract: the calls give the parts of `afterLoop`. Assumes nothing.
 use mathlib.Core.Path.{sym, _∙_}
 use borrow.Author.Needs.{needs}
+use Rattle.voice.specs.Queue.{queueAt}
 use Rattle.plan.specs.Laws.{loop-made}
 use Rattle.plan.proofs.after.after_loop.Statement.{statement}
 use Rattle.plan.proofs.after.after_loop.Tie as tie
@@ -18,18 +19,20 @@ resets-requires : tie.Need-resets-requires
 resets-requires c κs = search needs
 
 returns : tie.Need-returns
-returns c =
+returns c b e =
     let p3 = c .before .before .before in
     let p4 = p3 .before in
     let p5 = p4 .before in
-    loop-made (p5 .args .q) (p5 .args .s) (p5 .args .wb) (p5 .args .got) (p4 .wrapping-add-u32 .ensures) (p3 .loops-over .ensures) (c .before .before .end-if .ensures) (sym (c .before .resets .ensures) ∙ c .if1 .taken)
+    loop-made (queueAt b (p5 .args .p)) (p5 .args .s) (p5 .args .wb) (p5 .args .got)
+    (p4 .wrapping-add-u32 .ensures) (p3 .loops-over .ensures) (c .before .before .end-if .ensures b e) (sym (c .before .resets .ensures) ∙ c .if1 .taken)
 
 returns-2 : tie.Need-returns-2
-returns-2 c =
+returns-2 c b e =
     let p3 = c .before .before .before in
     let p4 = p3 .before in
     let p5 = p4 .before in
-    loop-made (p5 .args .q) (p5 .args .s) (p5 .args .wb) (p5 .args .got) (p4 .wrapping-add-u32 .ensures) (p3 .loops-over .ensures) (c .before .before .end-if .ensures) (sym (c .before .resets .ensures) ∙ c .if1 .left)
+    loop-made (queueAt b (p5 .args .p)) (p5 .args .s) (p5 .args .wb) (p5 .args .got)
+    (p4 .wrapping-add-u32 .ensures) (p3 .loops-over .ensures) (c .before .before .end-if .ensures b e) (sym (c .before .resets .ensures) ∙ c .if1 .left)
 
 pub after-loop-spec : {M : Type 1} → statement M
 after-loop-spec =

@@ -9,7 +9,7 @@ end-buffer-requires c κs = search needs
 
 returns : tie.Need-returns
 unfolding afterMissing
-returns c = c .end-buffer .ensures
+returns c b e = c .end-buffer .ensures b (λ i. e i .«end_of_stream»)
 
 pub after-missing-spec : {M : Type 1} → statement M
 after-missing-spec = tie.close (tie.spec end-buffer-requires returns)

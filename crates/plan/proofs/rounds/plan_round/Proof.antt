@@ -1,8 +1,10 @@
 -- `plan::plan_round` meets its contract: the calls give the parts of `roundPlan`, by whether the decode is missing. Assumes nothing.
 use Prim.Native.Nat.{ℕ}
+use mathlib.Core.List.{List}
 use mathlib.Core.Path.{_≡_, _∙_}
 use borrow.Author.Needs.{needs}
-use Rattle.voice.specs.Queue.{bufferAt}
+use lib.ListN.{getD}
+use Rattle.voice.specs.Queue.{noBuffer, queueAt}
 use Rattle.voice.specs.declared.wave.WaveBuffer.{WaveBuffer}
 use Rattle.voice.specs.declared.queue.Queue.{Queue}
 use Rattle.plan.specs.declared.Act.{Act}
@@ -10,15 +12,6 @@ use Rattle.plan.specs.Laws.{missing-made, samples-made, round-made}
 use Rattle.plan.specs.Rounds.{roundOf, roundPlan}
 use Rattle.plan.proofs.rounds.plan_round.Statement.{statement}
 use Rattle.plan.proofs.rounds.plan_round.Tie as tie
-
-cast-at : tie.Need-cast-at
-cast-at c = search needs
-
-mul-wb : tie.Need-mul-wb
-mul-wb c = search needs
-
-element-copy-out-wb : tie.Need-element-copy-out-wb
-element-copy-out-wb c = search needs
 
 context-read-requires : tie.Need-context-read-requires
 context-read-requires c κs = search needs
@@ -62,16 +55,13 @@ enum-known-result c = search needs
 after-got-requires : tie.Need-after-got-requires
 after-got-requires c κs = search needs
 
--- what the calls up to the decode's plan give
+-- what the calls up to the decode's plan give, for any four wave buffers that have wb where it plays
 module _ (c : tie.After-plan-decode) where
   abbrev start : tie.Start
-  start = c .before .before .before .before .before .before .before .before .before .before
-
-  abbrev q : Queue
-  q = start .args .t1
+  start = c .before .before .before .before .before .before .before .before .before
 
   abbrev w : WaveBuffer
-  w = bufferAt q (q .index)
+  w = start .args .wb
 
   abbrev total : ℕ
   total = c .before .before .before .before .saturating-sub .result
@@ -79,30 +69,36 @@ module _ (c : tie.After-plan-decode) where
   abbrev act : Act
   act = record { renews = c .before .before .before .before .before .before .before .before .context-read .result; context = w .context; decode = c .plan-decode .result .decode }
 
-  made : roundOf q (start .args .s) w total act (c .plan-decode .result .got) ≡ roundPlan q (start .args .s) (start .args .left)
-  made =
-      let least = c .before .before in
-      let sub2 = least .before in
-      let either2 = sub2 .before .before in
-      let in-loop = either2 .before .before in
-      round-made q (start .args .s) (start .args .left) (in-loop .before .context-read .ensures) (in-loop .in-loop .ensures) (either2 .before .either .ensures) (either2 .either2 .ensures)
-      (sub2 .before .saturating-sub .ensures) (sub2 .saturating-sub2 .ensures) (least .least .ensures) (c .before .wrapping-add-u32 .ensures) (c .plan-decode .ensures)
+  module _ (b : List WaveBuffer) (e : getD b (start .args .p .index) noBuffer ≡ w) where
+    abbrev q : Queue
+    q = queueAt b (start .args .p)
+
+    made : roundOf q (start .args .s) w total act (c .plan-decode .result .got) ≡ roundPlan q (start .args .s) (start .args .left)
+    made =
+        let least = c .before .before in
+        let sub2 = least .before in
+        let either2 = sub2 .before .before in
+        let in-loop = either2 .before .before in
+        round-made q (start .args .s) (start .args .left) e (in-loop .before .context-read .ensures) (in-loop .in-loop .ensures)
+        (either2 .before .either .ensures) (either2 .either2 .ensures) (sub2 .before .saturating-sub .ensures)
+        (sub2 .saturating-sub2 .ensures) (least .least .ensures) (c .before .wrapping-add-u32 .ensures) (c .plan-decode .ensures)
 
 returns : tie.Need-returns
-returns c = let p = c .before .before .before in missing-made (q p) (start p .args .s) (w p) (total p) (act p) (c .before .enum-told .given .1) (c .after-missing .ensures) ∙ made p
+returns c b e =
+    let p = c .before .before .before in
+    missing-made (q p b e) (start p .args .s) (w p) (total p) (act p) (c .before .enum-told .given .1) (c .after-missing .ensures b e)
+    ∙ made p b e
 
 returns-2 : tie.Need-returns-2
-returns-2 c =
+returns-2 c b e =
     let p = c .before .before .before .before .before in
-    samples-made (q p) (start p .args .s) (w p) (total p) (act p) (c .before .before .before .result .given .1) (c .before .after-got .ensures) ∙ made p
+    samples-made (q p b e) (start p .args .s) (w p) (total p) (act p) (c .before .before .before .result .given .1)
+    (c .before .after-got .ensures b e) ∙ made p b e
 
 pub plan-round-spec : {M : Type 1} → statement M
 plan-round-spec =
     tie.close
     (tie.spec
-    cast-at
-    mul-wb
-    element-copy-out-wb
     context-read-requires
     in-loop-requires
     either-requires
