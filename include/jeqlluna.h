@@ -31,7 +31,7 @@ extern "C" {
 #define JEQLLUNA_VERSION_PATCH 0
 
 /* The bytes of stack that a call takes at most; measured, and held to by bindings/stack. */
-#define JEQLLUNA_STACK 143360
+#define JEQLLUNA_STACK 134144
 
 enum {
     JEQLLUNA_OK = 0,
