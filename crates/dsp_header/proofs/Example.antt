@@ -1,4 +1,4 @@
--- A header computed both ways: sixteen different coefficients, eight of them negative, and negative samples before the loop. Assumes nothing.
+-- A header computed both ways: sixteen different coefficients, eight of them negative, and a negative history. Assumes nothing.
 use Prim.Native.Nat.{ℕ}
 use mathlib.Core.List.{List, [], _∷_}
 use mathlib.Core.Path.{_≡_, refl}

@@ -44,7 +44,8 @@ fn play(
     requires { ⌜ table ≡ hasTable s ⌝ }
     requires { ⌜ (n ≤ 256) × (s .channels * n ≤ length (now out)) ⌝ }
     ensures { λ r. ⌜ r ≡ playedSound (material q s (now (memory .entry)) needed sound ratio fraction n) ⌝ }
-    ensures { λ _. ⌜ take (s .channels * n) (now (out .exit)) ≡ heardOut (material q s (now (memory .entry)) needed sound ratio fraction n) ⌝ }
+    ensures { λ _. ⌜ take (s .channels * n) (now (out .exit))
+        ≡ heardOut (material q s (now (memory .entry)) needed sound ratio fraction n) ⌝ }
 {
     let row = (3 + needed) as usize;
     let rows = (s.channels * n) as usize;
@@ -83,9 +84,15 @@ pub fn hear(
     requires { ⌜ table ≡ hasTable s ⌝ }
     requires { ⌜ (n ≤ 256) × (s .channels * n ≤ length (now out)) ⌝ }
     requires { ⌜ (k < 64) × (k * 3 + 3 ≤ length (now contexts)) × (k * 18 + 18 ≤ length (now history)) ⌝ }
-    ensures { λ _. ⌜ now (contexts .exit) ≡ put (now (contexts .entry)) (k * 3) (contextsOf (playedSound (material q s (now (memory .entry)) needed (soundIn k (now (contexts .entry)) (now (history .entry))) ratio fraction n))) ⌝ }
-    ensures { λ _. ⌜ now (history .exit) ≡ put (now (history .entry)) (k * 18) (historyOf (playedSound (material q s (now (memory .entry)) needed (soundIn k (now (contexts .entry)) (now (history .entry))) ratio fraction n))) ⌝ }
-    ensures { λ _. ⌜ take (s .channels * n) (now (out .exit)) ≡ heardOut (material q s (now (memory .entry)) needed (soundIn k (now (contexts .entry)) (now (history .entry))) ratio fraction n) ⌝ }
+    ensures { λ _. ⌜ now (contexts .exit)
+        ≡ put (now (contexts .entry)) (k * 3) (contextsOf (playedSound (material q s (now (memory .entry)) needed
+        (soundIn k (now (contexts .entry)) (now (history .entry))) ratio fraction n))) ⌝ }
+    ensures { λ _. ⌜ now (history .exit)
+        ≡ put (now (history .entry)) (k * 18) (historyOf (playedSound (material q s (now (memory .entry)) needed
+        (soundIn k (now (contexts .entry)) (now (history .entry))) ratio fraction n))) ⌝ }
+    ensures { λ _. ⌜ take (s .channels * n) (now (out .exit))
+        ≡ heardOut (material q s (now (memory .entry)) needed
+        (soundIn k (now (contexts .entry)) (now (history .entry))) ratio fraction n) ⌝ }
 {
     let at_c = k * 3;
     let at_h = k * 18;

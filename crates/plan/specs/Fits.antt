@@ -22,7 +22,8 @@ use Rattle.plan.specs.declared.attempt.Got.{Got}
 use Rattle.plan.specs.declared.attempt.Got.the-variants.{Missing, Samples}
 use Rattle.plan.specs.declared.attempt.Attempt.{Attempt}
 use Rattle.plan.specs.Attempt.{sample, noSamples, pcmPlan, adpcmPlan, decodePlan}
-use Rattle.plan.specs.Rounds.{Round, Moved, renewsOf, inLoop, loopsOver, at, afterMissing, afterLoop, spanOver, afterGot, roundOf, roundPlan, Planned, grown, rounds, more, hasTable, planOf}
+use Rattle.plan.specs.Rounds.{Round, Moved, renewsOf, inLoop, loopsOver, at, afterMissing, afterLoop, spanOver, afterGot}
+use Rattle.plan.specs.Rounds.{roundOf, roundPlan, Planned, grown, rounds, more, hasTable, planOf}
 
 -- the samples that a decode asks room for
 abbrev pub wantOf : Decode → ℕ

@@ -19,7 +19,8 @@ use Rattle.plan.specs.declared.attempt.Got.{Got}
 use Rattle.plan.specs.declared.attempt.Got.the-variants.{Missing, Samples}
 use Rattle.plan.specs.declared.attempt.Attempt.{Attempt}
 use Rattle.plan.specs.Attempt.{sample, noSamples, pcmPlan, adpcmPlan, decodePlan}
-use Rattle.plan.specs.Rounds.{Moved, renewsOf, inLoop, loopsOver, resetsPlayed, at, endIf, resetIf, afterMissing, afterLoop, spanOver, afterGot, roundOf, roundPlan}
+use Rattle.plan.specs.Rounds.{Moved, renewsOf, inLoop, loopsOver, resetsPlayed, at, endIf, resetIf}
+use Rattle.plan.specs.Rounds.{afterMissing, afterLoop, spanOver, afterGot, roundOf, roundPlan}
 
 -- ---- decodes
 

@@ -154,7 +154,7 @@ pub fn begins(p: Spot, going: bool, done: u32, count: u32) -> bool
     p.valid[at]
 }
 
-// The plan of a fetch of count samples. Its acts are not kept: their sound is made by going through the rounds again (`sound::fetch_channel`).
+// The plan of a fetch of count samples. Its acts are not kept: `sound::fetch_channel` goes through the rounds again.
 pub fn plan_fetch(q: Queue, s: Source, count: u32) -> Plan
     requires { ⌜ q .index < 4 ⌝ }
     requires { ⌜ (0 < s .channels) × (s .channels ≤ 6) ⌝ }

@@ -26,7 +26,8 @@ use Rattle.sound.specs.Channel.{Ready, Fetched}
 use Rattle.playing.specs.Playing.{Material, deckOf, threeOf, channelRow, channelOut, outStep, tailOf, historyStep, soundStep, playedOut, playedHistory, playedSound}
 
 -- a row of another content is as ready
-pub ready-same : {q : Queue} {s : Source} {m : List ℕ} {row other : List Float} → length other ≡ length row → Ready q s m row → Ready q s m other
+pub ready-same : {q : Queue} {s : Source} {m : List ℕ} {row other : List Float} → length other ≡ length row
+    → Ready q s m row → Ready q s m other
 ready-same e r = record {
   history = rw e (r .history);
   long = rw e (r .long);

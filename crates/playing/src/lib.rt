@@ -77,7 +77,8 @@ fn play_channel(
     requires { ⌜ now coefficients ≡ tableOf (hasTable s) s (now memory) ⌝ }
     requires { ⌜ (c < 6) × (n ≤ 256) × (c * n + n ≤ length (now out)) ⌝ }
     ensures { λ r. ⌜ r ≡ soundStep (material q s (now (memory .entry)) (length (now (src .entry)) - 3) before ratio fraction n) c kept ⌝ }
-    ensures { λ _. ⌜ now (out .exit) ≡ outStep (material q s (now (memory .entry)) (length (now (src .entry)) - 3) before ratio fraction n) c (now (out .entry)) ⌝ }
+    ensures { λ _. ⌜ now (out .exit)
+        ≡ outStep (material q s (now (memory .entry)) (length (now (src .entry)) - 3) before ratio fraction n) c (now (out .entry)) ⌝ }
 {
     let history = before.history;
     let adpcm = before.adpcm;
@@ -109,7 +110,8 @@ pub fn play_channels(
     requires { ⌜ table ≡ hasTable s ⌝ }
     requires { ⌜ (s .channels * n ≤ length (now out)) × (n ≤ 256) ⌝ }
     ensures { λ r. ⌜ r ≡ playedSound (material q s (now (memory .entry)) (length (now (src .entry)) - 3) sound ratio fraction n) ⌝ }
-    ensures { λ _. ⌜ now (out .exit) ≡ playedOut (material q s (now (memory .entry)) (length (now (src .entry)) - 3) sound ratio fraction n) (now (out .entry)) ⌝ }
+    ensures { λ _. ⌜ now (out .exit)
+        ≡ playedOut (material q s (now (memory .entry)) (length (now (src .entry)) - 3) sound ratio fraction n) (now (out .entry)) ⌝ }
 {
     let coefficients = sound::coefficients(memory, s, table);
     let mut kept = sound;

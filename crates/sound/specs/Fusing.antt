@@ -22,7 +22,8 @@ use Rattle.plan.specs.declared.attempt.Got.{Got}
 use Rattle.plan.specs.declared.attempt.Got.the-variants.{Missing, Samples}
 use Rattle.plan.specs.Attempt.{sample, decodePlan}
 use Rattle.plan.specs.Fits.{Fits, fits-none, fits-more, plan-made, plan-table}
-use Rattle.plan.specs.Rounds.{Moved, Round, inLoop, at, renewsOf, loopsOver, resetsPlayed, resetIf, afterMissing, afterLoop, spanOver, afterGot, roundOf, roundPlan, more, Planned, grown, rounds, hasTable, planOf}
+use Rattle.plan.specs.Rounds.{Moved, Round, inLoop, at, renewsOf, loopsOver, resetsPlayed, resetIf, afterMissing, afterLoop, spanOver}
+use Rattle.plan.specs.Rounds.{afterGot, roundOf, roundPlan, more, Planned, grown, rounds, hasTable, planOf}
 use Rattle.sound.specs.Sound.{tableOf, Deck, perform, performAll, rowOf}
 use Rattle.sound.specs.Perform.{fresh}
 use Rattle.sound.specs.FusedDecode.{each-same, each-id, each-each, made, decode-same}

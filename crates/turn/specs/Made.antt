@@ -27,7 +27,8 @@ module _ (v : Voice) (r : Render) {ratio : Float} {n : ℕ} (hr : ratio ≡ rati
   needed-upto f l = rw needed-is (needed-few v r f l)
 
   -- with the queue, the source, their plan, the next fraction and the previous volume, a turn
-  pub turn-made : {q : Queue} {s : Source} {p : Plan} {next previous : Float} {w : Voice} → q ≡ queueOf v → s ≡ sourceOf v r → p ≡ withoutActs (planOf q s n)
+  pub turn-made : {q : Queue} {s : Source} {p : Plan} {next previous : Float} {w : Voice} → q ≡ queueOf v → s ≡ sourceOf v r
+      → p ≡ withoutActs (planOf q s n)
       → next ≡ nextOf (v .fraction) ratio (r .«sample_count») → previous ≡ previousOf v → w ≡ with (v .fresh) previous (p .queue) next v
       → _≡_ {A = Turn}
       (record { voice = w; plan = p; ratio = ratio; fraction = v .fraction; needed = n; from = v .«previous_volume»; to = v .volume })

@@ -10,7 +10,8 @@ ghost use Prim.Native.Nat.{_≤_, _<_, max};
 ghost use lib.Dec.{T};
 ghost use Rattle.floats.specs.Unit.{inUnit};
 ghost use Rattle.resample.specs.Defs.{nextOf};
-ghost use Rattle.turn.specs.Turn.{takesPart, with, freshened, beginOf, skipsConversion, speedOf, ratioOf, sourceOf, neededBy, previousOf, turnOf, told};
+ghost use Rattle.turn.specs.Turn.{takesPart, with, freshened, beginOf, skipsConversion};
+ghost use Rattle.turn.specs.Turn.{speedOf, ratioOf, sourceOf, neededBy, previousOf, turnOf, told};
 
 // What a render gives to each voice: its samples, the renderer's rate, whether the revision is 8 or later, and sample memory's base and length.
 pub struct Render {

@@ -35,7 +35,8 @@ use Rattle.voice_turn.specs.Asks.{Sounding}
 
 module _ {t : Turn} {v : Voice} {r : Render} {m : List ℕ} {src out : List Float} (q : Sounding t v r m src out)
     {s : Source} (es : s ≡ sourceOf v r) {u : Queue} (eu : u ≡ queueOf v) where
-  pub material-made : (sound : Sound) → material u s m (t .needed) sound (t .ratio) (t .fraction) (r .«sample_count») ≡ materialOf r m v sound
+  pub material-made : (sound : Sound) → material u s m (t .needed) sound (t .ratio) (t .fraction) (r .«sample_count»)
+      ≡ materialOf r m v sound
   unfolding materialOf turnOf plannedBy
   material-made sound =
       let e = q .turn in
@@ -101,7 +102,8 @@ module _ (p : Params) (v : Voice) (out : List Float) (words : List ℕ) (floats 
 
 -- ---- the turn of a voice that is ready
 
-module _ (p : Params) (r : Render) (m : List ℕ) (k : ℕ) (v : Voice) (st : State) (buffers : List Float) (t : Turn) (e : t ≡ told (turnOf v r)) where
+module _ (p : Params) (r : Render) (m : List ℕ) (k : ℕ) (v : Voice) (st : State) (buffers : List Float)
+    (t : Turn) (e : t ≡ told (turnOf v r)) where
   -- what was heard, in the first rows of out
   ramped-made : (out : List Float) (w : Material) → r .«sample_count» ≡ p .«sample_count» → take (v .channels * r .«sample_count») out ≡ heardOut w
       → routeOut (t .from) (t .to) (p .«sample_count») (v .channels) out ≡ rampedOut p r v w

@@ -36,7 +36,14 @@ coefficients-requires c κs = search needs
 
 fetch-channel-requires : tie.Need-fetch-channel-requires
 fetch-channel-requires c κs =
-    record { history = omega arith; long = omega arith; index = omega arith; some = omega arith; channels = omega arith; size = omega arith }
+    record {
+      history = omega arith;
+      long = omega arith;
+      index = omega arith;
+      some = omega arith;
+      channels = omega arith;
+      size = omega arith;
+    }
 
 same-length : tie.Need-same-length
 same-length c = search needs

@@ -31,7 +31,8 @@ store-sound-requires c κs =
 
 -- what is played of a sound, with the rest as it is
 abbrev from : tie.Start → Sound → Material
-from s sound = material (s .args .q) (s .args .s) (s .args .memory .now) (s .args .needed) sound (s .args .ratio) (s .args .fraction) (s .args .n)
+from s sound =
+    material (s .args .q) (s .args .s) (s .args .memory .now) (s .args .needed) sound (s .args .ratio) (s .args .fraction) (s .args .n)
 
 returns : tie.Need-returns
 returns c =

@@ -41,7 +41,8 @@ play-channels-requires c κs =
 
 -- what the sound is made from, if `needed` samples are
 abbrev from : tie.Start → ℕ → Material
-from s needed = material (s .args .q) (s .args .s) (s .args .memory .now) needed (s .args .sound) (s .args .ratio) (s .args .fraction) (s .args .n)
+from s needed =
+    material (s .args .q) (s .args .s) (s .args .memory .now) needed (s .args .sound) (s .args .ratio) (s .args .fraction) (s .args .n)
 
 returns : tie.Need-returns
 returns c =

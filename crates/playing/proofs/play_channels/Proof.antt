@@ -11,7 +11,8 @@ use Rattle.playing.proofs.play_channels.Statement.{statement}
 use Rattle.playing.proofs.play_channels.Tie as tie
 
 abbrev Inv-loop : tie.InvT-loop
-Inv-loop q s table memory sound ratio fraction n src₀ out₀ coefficients kept₀ c₀ src out kept c = Sounding (material q s memory (length src₀ - 3) sound ratio fraction n) src₀ out₀ src out kept c
+Inv-loop q s table memory sound ratio fraction n src₀ out₀ coefficients kept₀ c₀ src out kept c =
+    Sounding (material q s memory (length src₀ - 3) sound ratio fraction n) src₀ out₀ src out kept c
 
 abbrev μ-loop : tie.MeasureT-loop
 μ-loop q s table memory sound ratio fraction n src₀ out₀ coefficients kept₀ c₀ src out kept c = s .channels - c
@@ -52,7 +53,8 @@ loop-again c =
     let p10 = p8 .before .before in
     let a = p10 .before .before .before .before .before .args in
     let p = p10 .loop .inv in
-    sounding-more p (p8 .if1 .taken) (ap (λ (l : ℕ). material (a .q) (a .s) (a .memory .now) (l - 3) (a .sound) (a .ratio) (a .fraction) (a .n)) (p .row))
+    sounding-more p (p8 .if1 .taken)
+    (ap (λ (l : ℕ). material (a .q) (a .s) (a .memory .now) (l - 3) (a .sound) (a .ratio) (a .fraction) (a .n)) (p .row))
     (p4 .play-channel .ensures .0) (p4 .play-channel .ensures .1)
     (p4 .play-channel .kept .1 .1 .1 .1 .1 .1 .1 .1 .1 .1 .0) (p4 .play-channel .kept .1 .1 .1 .1 .1 .1 .1 .1 .1 .1 .1 .0)
 

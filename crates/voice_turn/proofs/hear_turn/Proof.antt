@@ -28,12 +28,14 @@ returns c =
     let made = taken .before in
     let s = made .before .before .before .before .before .before in
     let a = s .args in
-    let w = material-made (s .pre .0) (made .source-of .ensures) (taken .queue-of .ensures) (soundIn (a .k) (a .contexts .now) (a .history .now)) in
+    let w = material-made (s .pre .0) (made .source-of .ensures) (taken .queue-of .ensures)
+    (soundIn (a .k) (a .contexts .now) (a .history .now)) in
     let e = heard .hear .ensures in (
       e .0 ∙ (λ i. put (a .contexts .now) (a .k * 3) (contextsOf (playedSound (w i)))),
       (
         e .1 .0 ∙ (λ i. put (a .history .now) (a .k * 18) (historyOf (playedSound (w i)))),
-        heard-made (s .pre .0) (made .source-of .ensures) (taken .queue-of .ensures) (soundIn (a .k) (a .contexts .now) (a .history .now)) _ (e .1 .1),
+        heard-made (s .pre .0) (made .source-of .ensures) (taken .queue-of .ensures)
+            (soundIn (a .k) (a .contexts .now) (a .history .now)) _ (e .1 .1),
       ),
     )
 

@@ -46,7 +46,8 @@ returns-3 c b e =
     let p3 = c .before .before .before in
     let p4 = p3 .before in
     got-made (queueAt b (p4 .args .p)) (p4 .args .s) (p4 .args .wb) (p4 .args .total) (p4 .args .got)
-    (p3 .wrapping-add-u32 .ensures) (c .before .before .wrapping-add-u64 .ensures) (sym (c .before .span-over .ensures) ∙ c .if1 .left) refl refl refl
+    (p3 .wrapping-add-u32 .ensures) (c .before .before .wrapping-add-u64 .ensures)
+    (sym (c .before .span-over .ensures) ∙ c .if1 .left) refl refl refl
 
 pub after-got-spec : {M : Type 1} → statement M
 after-got-spec =

@@ -24,7 +24,8 @@ returns c b e =
     let p4 = p3 .before in
     let p5 = p4 .before in
     loop-made (queueAt b (p5 .args .p)) (p5 .args .s) (p5 .args .wb) (p5 .args .got)
-    (p4 .wrapping-add-u32 .ensures) (p3 .loops-over .ensures) (c .before .before .end-if .ensures b e) (sym (c .before .resets .ensures) ∙ c .if1 .taken)
+    (p4 .wrapping-add-u32 .ensures) (p3 .loops-over .ensures) (c .before .before .end-if .ensures b e)
+    (sym (c .before .resets .ensures) ∙ c .if1 .taken)
 
 returns-2 : tie.Need-returns-2
 returns-2 c b e =
@@ -32,7 +33,8 @@ returns-2 c b e =
     let p4 = p3 .before in
     let p5 = p4 .before in
     loop-made (queueAt b (p5 .args .p)) (p5 .args .s) (p5 .args .wb) (p5 .args .got)
-    (p4 .wrapping-add-u32 .ensures) (p3 .loops-over .ensures) (c .before .before .end-if .ensures b e) (sym (c .before .resets .ensures) ∙ c .if1 .left)
+    (p4 .wrapping-add-u32 .ensures) (p3 .loops-over .ensures) (c .before .before .end-if .ensures b e)
+    (sym (c .before .resets .ensures) ∙ c .if1 .left)
 
 pub after-loop-spec : {M : Type 1} → statement M
 after-loop-spec =
