@@ -1,12 +1,11 @@
 -- The bytes of a number put one by one, the lowest and last first: what is still to put, put now, leaves the whole. Assumes nothing.
 use mathlib.Core.Path.{_≡_, refl, ap, sym, _∙_}
-use mathlib.Core.List.{List, [], _∷_, _++_, append-assoc, append-nil}
+use mathlib.Core.List.{List, [], _∷_, _++_, append-assoc}
 use Prim.Native.Nat.{ℕ, suc, _+_, _/_, _%_, _≤_, _<_}
-use native.Mathlib.Nat.{add-zero}
 use native.Mathlib.Omega.{arith}
-use lib.ListN.{length, take, drop, set, getD, length-set, length-append, take-append-drop}
+use lib.ListN.{length, take, drop, set, getD, length-set, length-append}
 use lib.Seq.{take-set-le, drop-set-lt, drop-cons, getD-set-same, append-snoc}
-use Rattle.rows.specs.Rows.{put}
+use Rattle.rows.specs.Rows.{part, put, put-part}
 use Rattle.dsp_header.specs.Big.{bigBytes}
 use Rattle.dsp_header.proofs.Sizes.{length-big}
 
@@ -27,10 +26,6 @@ put-last d o x n r e h =
     ∙ (λ j. take o d ++ r ++ drop-set d (o + n) x h j)
     ∙ sym (append-snoc (take o d ++ r) x (drop (suc (o + n)) d))
     ∙ (λ j. append-assoc (take o d) r (x ∷ []) j ++ drop (long j) d)
-
-put-none : (d : List ℕ) (o : ℕ) → put d o [] ≡ d
-unfolding put
-put-none d o = rw (add-zero, append-nil) (take-append-drop o d)
 
 -- with k bytes to put: x is what is left of v
 pub record Putting (d₀ : List ℕ) (o w v : ℕ) (d : List ℕ) (x k : ℕ) : Type 0 where
@@ -54,6 +49,6 @@ module _ {d₀ : List ℕ} {o w v : ℕ} {d : List ℕ} {x k : ℕ} (p : Putting
             ∙ p .whole;
       }
 
-  pub put-end : k ≡ 0 → d ≡ put d₀ o (bigBytes w v)
-  unfolding bigBytes
-  put-end e = sym (put-none d o) ∙ ap (λ (n : ℕ). put d o (bigBytes n x)) (sym e) ∙ p .whole
+  pub put-end : k ≡ 0 → o + w ≤ length d₀ → d ≡ put d₀ o (bigBytes w v)
+  unfolding bigBytes part
+  put-end e fits = sym (put-part 0 o d (omega (arith, p .size))) ∙ ap (λ (n : ℕ). put d o (bigBytes n x)) (sym e) ∙ p .whole

@@ -36,7 +36,7 @@ same-length : tie.Need-same-length Inv-loop μ-loop
 same-length c = search needs
 
 returns : tie.Need-returns Inv-loop μ-loop
-returns c = put-end (c .before .loop .inv) (omega arith)
+returns c = put-end (c .before .loop .inv) (omega arith) (omega arith)
 
 pub put-big-spec : {M : Type 1} → statement M
 put-big-spec =

@@ -1,13 +1,9 @@
 -- `dsp_header::read::coefficients` meets its contract. Assumes nothing.
-use mathlib.Core.Path.{_≡_, refl, sym, _∙_}
-use mathlib.Core.List.{List}
-use Prim.Native.Nat.{ℕ, _+_, _-_, _*_, _≤_}
-use native.Mathlib.Nat.{zero-add}
+use mathlib.Core.Path.{_≡_, refl}
+use Prim.Native.Nat.{ℕ, _+_, _-_, _*_}
 use native.Mathlib.Omega.{arith}
-use lib.IntN.{ℤ}
 use lib.ListN.{length}
-use Rattle.rows.specs.Rows.{put-all}
-use Rattle.rows.specs.Tables.{table, length-table, Tabling, table-begin, table-step, table-end}
+use Rattle.rows.proofs.Filling.{Filling, fill-begin, fill-more, fill-end}
 use Rattle.dsp_header.specs.Header.{signedAt, coefficientsAt}
 use Rattle.dsp_header.proofs.Numbers.{signed-is}
 use borrow.Author.Needs.{needs}
@@ -15,13 +11,13 @@ use Rattle.dsp_header.proofs.read.coefficients.Statement.{statement}
 use Rattle.dsp_header.proofs.read.coefficients.Tie as tie
 
 abbrev Inv-loop : tie.InvT-loop
-Inv-loop d o c₀ k₀ c k = (length c₀ ≡ 16) × Tabling c₀ 0 16 (λ (i : ℕ). signedAt d (o + i * 2)) c k
+Inv-loop d o c₀ k₀ c k = (length c₀ ≡ 16) × Filling c₀ 16 (λ (i : ℕ). signedAt d (o + i * 2)) c k
 
 abbrev μ-loop : tie.MeasureT-loop
 μ-loop d o c₀ k₀ c k = 16 - k
 
 loop-holds : tie.Need-loop-holds Inv-loop μ-loop
-loop-holds c = (refl, table-begin _ 0 16 _ (omega arith))
+loop-holds c = (refl, fill-begin _ 16 _)
 
 mul-word : tie.Need-mul-word Inv-loop μ-loop
 mul-word c = search needs
@@ -51,14 +47,11 @@ loop-again : tie.Need-loop-again Inv-loop μ-loop
 loop-again c =
     let l = c .before .before .before .loop in
     let e = signed-is _ _ (c .signed16 .ok) (c .signed16 .ensures) (c .before .word .ensures) in
-    (l .inv .0, rw (zero-add (l .k)) at (table-step (l .inv .1) (omega arith) (omega arith) e))
-
-ends : {c₀ c : List ℤ} {f : ℕ → ℤ} {k : ℕ} → length c₀ ≡ 16 → Tabling c₀ 0 16 f c k → 16 ≤ k → c ≡ table 16 f
-ends {c₀} {f = f} l t h = table-end t h ∙ put-all c₀ (table 16 f) (length-table 16 f ∙ sym l)
+    (l .inv .0, fill-more (l .inv .1) (l .inv .0) (omega arith) e)
 
 returns : tie.Need-returns Inv-loop μ-loop
 unfolding coefficientsAt
-returns c = ends (c .before .loop .inv .0) (c .before .loop .inv .1) (omega arith)
+returns c = fill-end (c .before .loop .inv .1) (c .before .loop .inv .0) (omega arith)
 
 pub coefficients-spec : {M : Type 1} → statement M
 coefficients-spec =
