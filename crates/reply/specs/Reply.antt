@@ -3,6 +3,7 @@ use mathlib.Core.Bool.{cond}
 use mathlib.Core.List.{List, [], _∷_, _++_}
 use Prim.Native.Nat.{ℕ, _+_, _*_}
 use lib.Dec.{leb}
+use Rattle.rows.specs.Rows.{part}
 use Rattle.fields.specs.Fields.{sectionOf, bytesOf}
 use Rattle.params.specs.declared.params.Params.{Params}
 use Rattle.params.specs.Sizes.{revisionOf, poolsOf, infoBytes, effectsBytes, replyLength}
@@ -75,3 +76,10 @@ backOf p bytes section elapsed = effectRows (p .effects) bytes section ++ restBy
 -- of the parameters, the expected size, the input, the elapsed renders, and the voices' words and longs after the update
 unfoldable pub replyOf : Params → ℕ → List ℕ → ℕ → List ℕ → List ℕ → List ℕ
 replyOf p expected input elapsed words longs = frontOf p expected input words longs ++ backOf p (effectsBytes p expected) (effectsSection input) elapsed
+
+-- voice k's 16 bytes of a reply
+abbrev pub statusPlace : Params → ℕ → ℕ
+statusPlace p k = 0x40 + poolsOf p * 0x10 + k * 0x10
+
+abbrev pub statusIn : Params → ℕ → List ℕ → List ℕ
+statusIn p k reply = part 0x10 (statusPlace p k) reply

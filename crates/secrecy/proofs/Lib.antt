@@ -1,2 +1,4 @@
 pub mod Same
 pub mod Holds
+pub mod Status
+pub mod Positions

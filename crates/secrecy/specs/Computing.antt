@@ -39,7 +39,8 @@ use Rattle.splitters.specs.Lists.{countOf, entryOf, nextOf, splitterStep, split
 use Rattle.splitters.specs.Section.{recordsFrom, recordsOf, roundedUp, splittersOf}
 use Rattle.splitters.specs.Walk.{steps}
 use Rattle.update_alike.specs.Routes.{routes}
-use Rattle.updates.specs.Update.{afterDesk, afterVoices, listsSize, mixesAt, voiceRowsIn, withLists, withMixes, withResources, withSinks, withVoices}
+use Rattle.updates.specs.Update.{afterDesk, afterVoices, changed, listsSize, mixesAt, voiceRowsIn, withLists, withMixes, withResources}
+use Rattle.updates.specs.Update.{withSinks, withVoices}
 use Rattle.voice.specs.Play.{setPlay}
 use Rattle.voice.specs.Prepare.{flushSlot}
 use Rattle.voice.specs.Sound.{silentSound}
@@ -63,7 +64,7 @@ unfolding coefficientsOf contextOf runFrom tookOf valueOf nibbleOf sizeOf countF
     effectState granted poolRow poolWord poolsBytes heardOf statusAt statusOf voicesBytes listsWhole mixWhole mixesWhole sinksWhole rowsWithin within all every sum
     someChannel voiceWhole voiceWordsWhole voicesWhole inputSpans reads factorsOf frames inputOf leftOf rightOf sampleOf side sinkOf toUnit wordsOfContext
     destinationStep destinationsFrom newlyOf storedFloats storedWords strideFrom strideOf usedOf volumeOf withFloats withWords countOf entryOf nextOf
-    splitterStep splittersFrom withList recordsFrom recordsOf roundedUp splittersOf steps routes afterDesk afterVoices listsSize mixesAt voiceRowsIn withLists
+    splitterStep splittersFrom withList recordsFrom recordsOf roundedUp splittersOf steps routes afterDesk afterVoices changed listsSize mixesAt voiceRowsIn withLists
     withMixes withResources withSinks withVoices setPlay flushSlot silentSound offsetsValid parseOf recorded renderVoice headOf topOf longsOfWave waveOf wordsOfWave
     bySplitter destinationSent entrySent listSent mixSends rampedRow sendsOf sent splitterSends taken toMix voicesOf lengthsRight rowsWhole wholeBy div isNan le mul
     ofBits ofInt sub toUnsigned

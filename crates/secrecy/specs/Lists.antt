@@ -36,7 +36,7 @@ abbrev pub None : ℕ → Type 0
 None k = ⊥
 
 module _ {p : Params} where
-  unasked : {a b : State} → Both p None a b → (c c′ : Call) → shape c ≡ shape c′ → Stepped p None a b c c′
+  pub unasked : {a b : State} → Both p None a b → (c c′ : Call) → shape c ≡ shape c′ → Stepped p None a b c c′
   unasked h c c′ e = step h c c′ e (λ k l n t. absurd n)
 
   pub said-same : {a b : State} → Both p None a b → (cs cs′ : List Call) → map shape cs ≡ map shape cs′ → saidAll a cs ≡ saidAll b cs′
@@ -47,6 +47,15 @@ module _ {p : Params} where
       let s = unasked h c c′ (head-eq-of-cons-eq e) in
       let rest = said-same (s .both) cs cs′ (tail-eq-of-cons-eq e) in
       λ i. s .same i ∷ rest i
+
+  -- the states at a place of both lists
+  pub both-at : {a b : State} → Both p None a b → (cs cs′ : List Call) → map shape cs ≡ map shape cs′ → (r : ℕ)
+      → Both p None (stateAt a cs r) (stateAt b cs′ r)
+  both-at h [] [] e r = h
+  both-at h [] (c′ ∷ cs′) e r = absurd (nil≢cons e)
+  both-at h (c ∷ cs) [] e r = absurd (cons≢nil e)
+  both-at h (c ∷ cs) (c′ ∷ cs′) e zero = h
+  both-at h (c ∷ cs) (c′ ∷ cs′) e (suc r) = both-at (unasked h c c′ (head-eq-of-cons-eq e) .both) cs cs′ (tail-eq-of-cons-eq e) r
 
   -- ---- frames
 

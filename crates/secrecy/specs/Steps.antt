@@ -103,7 +103,7 @@ module _ (a : State) (w : Whole a) (k : ℕ) (inside : k < paramsIn a .voices) w
   update-heard : (expected : ℕ) (input reply : List ℕ) (t : Bool)
       → HeardAfter (roomBy t a expected input reply .state) (cond (eqb (roomBy t a expected input reply .number) 0) (routes (paramsIn a) input k) false)
   unfolding roomBy updateDone
-  update-heard expected input reply true l = inr (update-live (paramsIn a) (w .allowed) input (w .sized) k inside l)
+  update-heard expected input reply true l = update-live (paramsIn a) (w .allowed) input (w .sized) k inside l
   update-heard expected input reply false l = inl l
 
   render-heard : (base : ℕ) (m : List ℕ) (frames : List Float) (t u : Bool) → HeardAfter (askedBy t u a base m frames .state) false

@@ -38,7 +38,7 @@ unfolding updateCall roomBy
 update-is st w expected input reply = rw (whole-is st w)
 
 -- the reply stands at the front of its slice
-reply-front : (p : Params) (expected : ℕ) (input : List ℕ) (st : State) (reply : List ℕ) → replyLength p expected ≤ length reply
+pub reply-front : (p : Params) (expected : ℕ) (input : List ℕ) (st : State) (reply : List ℕ) → replyLength p expected ≤ length reply
     → take (replyLength p expected) (put reply 0 (updateReply p expected input st)) ≡ updateReply p expected input st
 unfolding updateReply part
 reply-front p expected input st reply h =

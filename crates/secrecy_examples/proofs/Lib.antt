@@ -1,1 +1,2 @@
 pub mod Spans
+pub mod Positions

@@ -15,7 +15,8 @@ use Rattle.secrecy.specs.Declared.{declared, routed}
 use Rattle.secrecy.specs.Demand.{AgreeOn, callAt, Condition}
 use Rattle.secrecy.specs.Secrecy.{demand3}
 use Rattle.secrecy.specs.Computing.{computing}
-use Rattle.secrecy.specs.Inputs.{word, long, laidFrom, noMix, params, revision, slices, start, startFor, desk, updating, updatingAll, rendering, pcmVoice, pcmLater, pcm, frame, silence}
+use Rattle.secrecy.specs.Inputs.{laidFrom, noMix, params, revision, slices, start, startFor, desk, updating, updatingAll, rendering, pcmVoice, pcmLater, pcm, frame, silence}
+use Rattle.secrecy_examples.specs.Answers.{told, rendered}
 
 -- the voice plays to no mix; a render; it is sent to mix 0; a render of zeros
 abbrev pub session : List ℕ → List Call
@@ -38,21 +39,8 @@ pub routed-late : (routed st one 3 0 ≡ false) × (routed st one 4 0 ≡ true)
 unfolding computing startFor desk updatingAll rendering pcm
 routed-late = (refl, refl)
 
--- an update's answer, whose reply has what the voice has played; and a render's
-abbrev pub updated : ℕ → Said
-updated played = record {
-  number = 0;
-  size = 0x170;
-  reply = laidFrom 0 0x170
-      (word 0x00 (revision 2) ∷ word 0x04 0xb0 ∷ word 0x08 0x40 ∷ word 0x0c 0x10 ∷ word 0x1c 0x20 ∷ word 0x20 0x10 ∷ word 0x3c 0x170 ∷ long 0x80 played ∷ []);
-  rounds = 0;
-}
-
-abbrev pub rendered : ℕ → Said
-rendered rounds = record { number = 0; size = 0; reply = []; rounds = rounds }
-
 abbrev pub answers : List Said
-answers = updated 0 ∷ updated 0 ∷ rendered 1 ∷ updated 2 ∷ rendered 1 ∷ []
+answers = told 0 0 ∷ told 0 0 ∷ rendered 1 ∷ told 2 0 ∷ rendered 1 ∷ []
 
 -- both sessions say the same
 pub one-said : saidAll st one ≡ answers

@@ -1,3 +1,4 @@
+pub mod Answers
 pub mod Routed
 pub mod Declared
 pub mod Heard

@@ -1,7 +1,9 @@
--- A voice can be heard after an update where the input routes it, and nowhere else. Assumes nothing.
+-- A voice can be heard after an update with at least one byte where the input routes it, and nowhere else; after one without, where it could be heard
+-- before. Assumes nothing.
 use mathlib.Core.Path.{_≡_, refl, ap, _∙_, subst}
 use mathlib.Core.Bool.{Bool, true, false, _&&_}
 use mathlib.Core.List.{List, [], _∷_}
+use mathlib.Core.Logic.{_⊎_, inl, inr}
 use Prim.Native.Nat.{ℕ, _+_, _*_, _≤_, _<_}
 use native.Mathlib.Omega.{arith}
 use lib.Dec.{T}
@@ -21,7 +23,7 @@ use Rattle.voice_records.specs.Record.{recordUsed, filled, recorded}
 use Rattle.voices.specs.Voices.{VoiceRows, voiceStep, voicesOf}
 use Rattle.voices.specs.RowLaws.{done-zero, length-zero}
 use Rattle.voices.specs.Own.{wordsRowBy, stepVoice, wordsRow, words-step}
-use Rattle.updates.specs.Update.{Desk, withLists, withMixes, withSinks, afterDesk, withResources, voiceRowsIn, withVoices, afterVoices, updated}
+use Rattle.updates.specs.Update.{Desk, withLists, withMixes, withSinks, afterDesk, withResources, voiceRowsIn, withVoices, afterVoices, changed, updated}
 use Rattle.state_voices.specs.StateVoices.{voiceOn, voiceIn}
 use Rattle.row_trips.specs.Marks.{flag-again}
 use Rattle.alike.specs.Alike.{live}
@@ -60,8 +62,8 @@ module _ (p : Params) (input : List ℕ) {st : State} (z : Sized p st) (k : ℕ)
   after m = upTo (voiceStep (revisionOf p) (p .voices) (voicesSection input)) m (rowsBefore p input st)
 
   -- the words of voice k after the update are those that step k put
-  words-row : part 58 (10 + k * 58) (updated p input st .words) ≡ wordsRow (revisionOf p) (p .voices) (voicesSection input) k (after k)
-  unfolding updated afterVoices withVoices withResources voiceRowsIn voicesOf
+  words-row : part 58 (10 + k * 58) (changed p input st .words) ≡ wordsRow (revisionOf p) (p .voices) (voicesSection input) k (after k)
+  unfolding changed afterVoices withVoices withResources voiceRowsIn voicesOf
   words-row =
       let n = p .voices in
       let r = words-step (revisionOf p) n (voicesSection input) in
@@ -73,14 +75,17 @@ module _ (p : Params) (input : List ℕ) {st : State} (z : Sized p st) (k : ℕ)
       ∙ done-zero r n (rowsBefore p input st) found k h
 
   -- its longs and floats have no part in it
-  pub updated-live : live (voiceIn k (updated p input st)) ≡ routes p input k
+  pub changed-live : live (voiceIn k (changed p input st)) ≡ routes p input k
   unfolding voiceOn wordsRow recorded filled live routes
-  updated-live =
+  changed-live =
       let v = stepVoice (revisionOf p) (p .voices) (voicesSection input) k (after k) in
-      let l = part 14 (1 + k * 14) (updated p input st .longs) in
-      let f = part 4 (k * 4) (updated p input st .floats) in
+      let l = part 14 (1 + k * 14) (changed p input st .longs) in
+      let f = part 4 (k * 4) (changed p input st .floats) in
       ap (λ (row : List ℕ). live (voiceOf row l f)) words-row ∙ row-live (recordUsed (voiceRecord input k)) v _ l f
 
+-- one that can be heard after an update could be heard before it, or is routed by it
 pub update-live : (p : Params) → Allowed p → (input : List ℕ) {st : State} → Sized p st → (k : ℕ) → k < p .voices
-    → T (live (voiceIn k (updated p input st))) → T (routes p input k)
-update-live p _ input z k h = subst T (updated-live p input z k h)
+    → T (live (voiceIn k (updated p input st))) → T (live (voiceIn k st)) ⊎ T (routes p input k)
+unfolding updated
+update-live p _ [] z k h t = inl t
+update-live p _ (b ∷ bs) z k h t = inr (subst T (changed-live p (b ∷ bs) z k h) t)

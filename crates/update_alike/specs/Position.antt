@@ -1,7 +1,7 @@
 -- The words, longs and floats after an update follow from those before it and the input, and from no sound. Assumes nothing.
 use mathlib.Core.Path.{_≡_}
 use mathlib.Core.Bool.{Bool, true, false}
-use mathlib.Core.List.{List}
+use mathlib.Core.List.{List, [], _∷_}
 use Prim.Native.Nat.{ℕ, zero, suc, _*_}
 use lib.Ieee.{Float}
 use lib.ListN.{set}
@@ -14,7 +14,7 @@ use Rattle.desk_updates.specs.DeskUpdate.{resourcesAt}
 use Rattle.voice_rows.specs.VoiceRow.{wordsOf, longsOf, floatsOf}
 use Rattle.voice_records.specs.Record.{recordUsed}
 use Rattle.voices.specs.Voices.{VoiceRows, recordAt, recordedAt, recordedRows, unusedRows, stepBy, voiceStep, voicesOf}
-use Rattle.updates.specs.Update.{desk, withResources, voiceRowsIn, withVoices, afterVoices, afterDesk, updated}
+use Rattle.updates.specs.Update.{desk, withResources, voiceRowsIn, withVoices, afterVoices, afterDesk, changed, updated}
 use Rattle.update_alike.specs.Found.{voicesSection, resourcesSection, rowsIn}
 
 -- all of a state but its sound
@@ -67,10 +67,15 @@ module _ (p : Params) (a b : State) (e : positionOf a ≡ positionOf b) where
       let r = voices-same _ n d (rowsIn n a) (rowsIn n b) (λ i. position (part (n * 58) 10 (e i .words)) (part (n * 14) 1 (e i .longs)) (part (n * 4) 0 (e i .floats))) in
       λ i. position (put (e i .words) 10 (r i .words)) (put (e i .longs) 1 (r i .longs)) (put (e i .floats) 0 (r i .floats))
 
-pub updated-same : (p : Params) (input : List ℕ) (a b : State) → positionOf a ≡ positionOf b → positionOf (updated p input a) ≡ positionOf (updated p input b)
-unfolding updated afterVoices
-updated-same p input a b e =
+pub changed-same : (p : Params) (input : List ℕ) (a b : State) → positionOf a ≡ positionOf b → positionOf (changed p input a) ≡ positionOf (changed p input b)
+unfolding changed afterVoices
+changed-same p input a b e =
     let v = with-voices-same p _ _ (resources-same p a b e (resourcesSection input)) (voicesSection input) in
     λ i.
     let k = afterDesk p (sectionsOf input) input (desk (v i .words) (v i .floats)) in
     position (k .words) (v i .longs) (k .floats)
+
+pub updated-same : (p : Params) (input : List ℕ) (a b : State) → positionOf a ≡ positionOf b → positionOf (updated p input a) ≡ positionOf (updated p input b)
+unfolding updated
+updated-same p [] a b e = e
+updated-same p (x ∷ xs) a b e = changed-same p (x ∷ xs) a b e

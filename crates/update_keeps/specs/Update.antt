@@ -1,13 +1,13 @@
 -- An update leaves a whole state whole. Assumes nothing.
-use mathlib.Core.Path.{_≡_}
-use mathlib.Core.List.{List}
+use mathlib.Core.Path.{_≡_, refl}
+use mathlib.Core.List.{List, [], _∷_}
 use Prim.Native.Nat.{ℕ}
 use Rattle.params.specs.declared.params.Params.{Params}
 use Rattle.params.specs.declared.sections.Sections.{Sections}
 use Rattle.params.specs.Sections.{sectionsOf}
 use Rattle.state.specs.State.{State, Sized, paramsIn}
 use Rattle.whole.specs.Whole.{Whole}
-use Rattle.updates.specs.Update.{Desk, Updatable, deskOf, afterVoices, afterDesk, updated}
+use Rattle.updates.specs.Update.{Desk, Updatable, deskOf, afterVoices, afterDesk, changed, updated}
 use Rattle.updates.specs.Whole.{resources-keep, first-keep}
 use Rattle.updates.specs.FromWhole.{whole-updatable}
 use Rattle.whole_rows.specs.Rows.{RowsWhole, rows-of, rows-whole}
@@ -30,17 +30,17 @@ desk-rows p s input k h = sinks-rows p _ _ (mixes-rows p _ _ (lists-rows p _ k h
 
 module _ (st : State) (w : Whole st) (input : List ℕ) where
   abbrev after : State
-  after = updated (paramsIn st) input st
+  after = changed (paramsIn st) input st
 
   after-rows : RowsWhole (paramsIn st) (after .words) (after .floats)
-  unfolding updated
+  unfolding changed
   after-rows =
       let p = paramsIn st in
       let s = sectionsOf input in
       desk-rows p s input (deskOf (afterVoices p s input st)) (first-rows p s input st (whole-updatable st w) (rows-of st w))
 
   after-sized : Sized (paramsIn st) after
-  unfolding updated
+  unfolding changed
   after-sized =
       let s = first-keep (paramsIn st) (sectionsOf input) input st (whole-updatable st w) .sized in
       record {
@@ -53,7 +53,11 @@ module _ (st : State) (w : Whole st) (input : List ℕ) where
 
 -- the parameters stay
 pub update-params : (st : State) → Whole st → (input : List ℕ) → paramsIn (updated (paramsIn st) input st) ≡ paramsIn st
-update-params st w input = after-rows st w input .params
+unfolding updated
+update-params st w [] = refl
+update-params st w (b ∷ bs) = after-rows st w (b ∷ bs) .params
 
 pub update-whole : (st : State) → Whole st → (input : List ℕ) → Whole (updated (paramsIn st) input st)
-update-whole st w input = rows-whole (paramsIn st) (after st w input) (after-rows st w input) (after-sized st w input)
+unfolding updated
+update-whole st w [] = w
+update-whole st w (b ∷ bs) = rows-whole (paramsIn st) (after st w (b ∷ bs)) (after-rows st w (b ∷ bs)) (after-sized st w (b ∷ bs))

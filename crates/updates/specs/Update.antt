@@ -1,6 +1,6 @@
 -- What an update makes of a state (mod.rs `Renderer::update`): the five updates, each on the rows of its kind, in the Rust's order. Definitions only.
 use mathlib.Core.Path.{_≡_}
-use mathlib.Core.List.{List}
+use mathlib.Core.List.{List, [], _∷_}
 use Prim.Native.Nat.{ℕ, _+_, _*_, _≤_}
 use lib.Ieee.{Float}
 use lib.ListN.{length, getD}
@@ -92,11 +92,16 @@ withDesk st k = stateOf (k .words) (st .longs) (k .floats) (st .contexts) (st .h
 abbrev pub deskOf : State → Desk
 deskOf st = desk (st .words) (st .floats)
 
--- each section is where the header's sizes put it
-unfoldable pub updated : Params → List ℕ → State → State
-updated p input st =
+-- by an input with at least one byte: each section is where the header's sizes put it
+unfoldable pub changed : Params → List ℕ → State → State
+changed p input st =
     let after = afterVoices p (sectionsOf input) input st in
     withDesk after (afterDesk p (sectionsOf input) input (deskOf after))
+
+-- an input without a byte asks for the reply alone: the state stays
+unfoldable pub updated : Params → List ℕ → State → State
+updated p [] st = st
+updated p (b ∷ bs) st = changed p (b ∷ bs) st
 
 -- the reply, of the state as the update leaves it: the elapsed renders, which are the first long, and the voices
 unfoldable pub updateReply : Params → ℕ → List ℕ → State → List ℕ

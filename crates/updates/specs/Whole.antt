@@ -14,7 +14,7 @@ use Rattle.params.specs.Sizes.{revisionOf}
 use Rattle.state.specs.State.{State, stateOf, Sized, mixesOf, mixWords, resourceFloats, mixFloats, mixWordsIn, mixFloatsIn}
 use Rattle.desk_updates.specs.DeskUpdate.{resourcesAt}
 use Rattle.desk_updates.specs.Laws.{length-resources}
-use Rattle.updates.specs.Update.{Desk, VoicesInside, DeskUpdatable, Updatable, deskOf, withDesk, withResources, voiceRowsIn, putVoices, withVoices, afterVoices, afterDesk, updated}
+use Rattle.updates.specs.Update.{Desk, VoicesInside, DeskUpdatable, Updatable, deskOf, withDesk, withResources, voiceRowsIn, putVoices, withVoices, afterVoices, afterDesk, changed}
 use Rattle.updates.specs.VoiceRows.{voices-long}
 
 -- ---- the two, one after the other
@@ -91,8 +91,8 @@ first-keep p s input st h = voices-keep p _ _ (resources-keep p _ st h)
 -- ---- the whole
 
 pub update-done : (p : Params) (input : List ℕ) (st : State) {s : Sections} {x : State} {k : Desk}
-    → s ≡ sectionsOf input → x ≡ afterVoices p s input st → k ≡ afterDesk p s input (deskOf x) → withDesk x k ≡ updated p input st
-unfolding updated
+    → s ≡ sectionsOf input → x ≡ afterVoices p s input st → k ≡ afterDesk p s input (deskOf x) → withDesk x k ≡ changed p input st
+unfolding changed
 update-done p input st {s} es ex ek =
     let first = ex ∙ ap (λ (s : Sections). afterVoices p s input st) es in
     let after = ek ∙ (λ i. afterDesk p (es i) input (deskOf (first i))) in

@@ -5,7 +5,8 @@ ghost use mathlib.Core.Path.{_≡_};
 ghost use Prim.Native.Nat.{_+_, _*_, _≤_};
 ghost use lib.ListN.{length, getD};
 ghost use Rattle.state.specs.State.{stateOf, wordsOf, longsOf, voiceWordsIn, voiceLongsIn};
-ghost use Rattle.updates.specs.Update.{Updatable, VoicesInside, putVoices, voiceRowsIn, afterVoices, updated, updateReply};
+ghost use Rattle.updates.specs.Update.{Updatable, VoicesInside, putVoices, voiceRowsIn, afterVoices};
+ghost use Rattle.updates.specs.Update.{changed, updated, updateReply};
 ghost use Rattle.rows.specs.Rows.{put};
 ghost use Rattle.params.specs.Sizes.{Allowed, replyLength};
 ghost use Rattle.reply.specs.Reply.{replyOf};
@@ -74,7 +75,27 @@ fn update_first(
     );
 }
 
-// The five updates, in the Rust's order.
+// The five updates, in the Rust's order, by an input with at least one byte.
+fn change_state(
+    p: Params,
+    input: &[u8],
+    words: &mut [u32],
+    longs: &mut [u64],
+    floats: &mut [f32],
+    contexts: &mut [u16],
+    history: &mut [f32],
+)
+    requires { ⌜ Updatable p (stateOf (now words) (now longs) (now floats) (now contexts) (now history)) ⌝ }
+    ensures { λ _. ⌜ stateOf (now (words .exit)) (now (longs .exit)) (now (floats .exit)) (now (contexts .exit)) (now (history .exit))
+        ≡ changed p (now (input .entry))
+        (stateOf (now (words .entry)) (now (longs .entry)) (now (floats .entry)) (now (contexts .entry)) (now (history .entry))) ⌝ }
+{
+    let s = Sections::read(input);
+    update_first(p, s, input, words, longs, floats, contexts, history);
+    routes::update_desk(p, s, input, words, floats);
+}
+
+// The state after an update: an input without a byte leaves it as it is.
 fn update_state(
     p: Params,
     input: &[u8],
@@ -86,11 +107,13 @@ fn update_state(
 )
     requires { ⌜ Updatable p (stateOf (now words) (now longs) (now floats) (now contexts) (now history)) ⌝ }
     ensures { λ _. ⌜ stateOf (now (words .exit)) (now (longs .exit)) (now (floats .exit)) (now (contexts .exit)) (now (history .exit))
-        ≡ updated p (now (input .entry)) (stateOf (now (words .entry)) (now (longs .entry)) (now (floats .entry)) (now (contexts .entry)) (now (history .entry))) ⌝ }
+        ≡ updated p (now (input .entry))
+        (stateOf (now (words .entry)) (now (longs .entry)) (now (floats .entry)) (now (contexts .entry)) (now (history .entry))) ⌝ }
 {
-    let s = Sections::read(input);
-    update_first(p, s, input, words, longs, floats, contexts, history);
-    routes::update_desk(p, s, input, words, floats);
+    if input.len() == 0 {
+        return;
+    }
+    change_state(p, input, words, longs, floats, contexts, history);
 }
 
 // The reply, of the voices' rows.

@@ -1,0 +1,98 @@
+-- An update whose input has no byte asks for the positions: it leaves the state alone, tells each voice's position as the state has it, routes and
+-- declares nothing, and two sessions that differ in sound hear the same answer. Assumes nothing.
+use mathlib.Core.Path.{_≡_, refl, ap, sym, subst, _∙_}
+use mathlib.Core.Bool.{Bool, true, false, cond, _&&_}
+use mathlib.Core.List.{List, [], map}
+use Prim.Native.Nat.{ℕ, _+_, _*_, _<_}
+use native.Mathlib.Omega.{arith}
+use borrow.Author.Tests.{leb-true, lt-leb}
+use lib.Dec.{leb}
+use lib.ListN.{length, take}
+use Rattle.fields.specs.Fields.{fieldAt, flagAt, sectionOf}
+use Rattle.params.specs.declared.params.Params.{Params}
+use Rattle.params.specs.Sections.{sectionsOf}
+use Rattle.params.specs.Sizes.{revisionOf, replyLength}
+use Rattle.state.specs.State.{State, paramsIn, voiceWordsIn, voiceLongsIn}
+use Rattle.whole.specs.Whole.{wholeOf}
+use Rattle.voice.specs.Voice.{hasDestination}
+use Rattle.voice_records.specs.Record.{recordUsed, splitterOf}
+use Rattle.reply_sections.specs.Voices.{statusAt}
+use Rattle.reply.specs.Reply.{statusIn}
+use Rattle.updates.specs.Update.{updated, updateReply}
+use Rattle.update_alike.specs.Routes.{voiceRecord, routes}
+use Rattle.calls.specs.Calls.{UpdateOutcome, openCall, updateLeft, updateDone, updateCall}
+use Rattle.secrecy.specs.Sessions.{Call, update, shape, updates, after, said, stateAt}
+use Rattle.secrecy.specs.Declared.{recordSpans, inputSpans}
+use Rattle.secrecy.specs.Demand.{begun}
+use Rattle.secrecy.specs.Both.{Both}
+use Rattle.secrecy.specs.Updates.{reply-front}
+use Rattle.secrecy.specs.Lists.{None, unasked, both-at}
+use Rattle.secrecy.specs.Opens.{opens, opened-both}
+use Rattle.secrecy.proofs.Status.{reply-status}
+
+-- such an update
+abbrev pub asked : ℕ → List ℕ → Call
+asked expected reply = update expected [] reply
+
+module _ (st : State) (expected : ℕ) (reply : List ℕ) where
+  -- by the answers to questions 4 and 6
+  outcomeBy : Bool → Bool → UpdateOutcome
+  outcomeBy whole room = cond whole (cond room (updateDone st expected [] reply) (updateLeft 6 0 st reply)) (updateLeft 4 0 st reply)
+
+  -- ---- it leaves the state alone, whether or not it is refused
+
+  nothing-by : (whole room : Bool) → outcomeBy whole room .state ≡ st
+  unfolding outcomeBy updateDone updated
+  nothing-by true true = refl
+  nothing-by true false = refl
+  nothing-by false room = refl
+
+  pub asks-nothing : after st (asked expected reply) ≡ st
+  unfolding updateCall outcomeBy
+  asks-nothing = nothing-by (wholeOf st) (leb (replyLength (paramsIn st) expected) (length reply))
+
+  -- ---- where it isn't refused, voice k's 16 bytes of the reply are its status, of the state as it stands
+
+  module _ (k : ℕ) (inside : k < paramsIn st .voices) where
+    abbrev position : List ℕ
+    position = statusAt (voiceWordsIn (paramsIn st) (st .words)) (voiceLongsIn (paramsIn st) (st .longs)) k
+
+    told-by : (whole room : Bool) → leb (replyLength (paramsIn st) expected) (length reply) ≡ room → outcomeBy whole room .number ≡ 0
+        → statusIn (paramsIn st) k (take (outcomeBy whole room .size) (outcomeBy whole room .reply)) ≡ position
+    unfolding outcomeBy updateDone updated updateReply
+    told-by true true h e =
+        ap (statusIn (paramsIn st) k) (reply-front (paramsIn st) expected [] st reply (leb-true _ _ h)) ∙ reply-status (paramsIn st) expected [] _ _ _ k inside
+    told-by true false h e = absurd (omega arith)
+    told-by false room h e = absurd (omega arith)
+
+    pub positions-told : said st (asked expected reply) .number ≡ 0 → statusIn (paramsIn st) k (said st (asked expected reply) .reply) ≡ position
+    unfolding updateCall outcomeBy
+    positions-told e = told-by (wholeOf st) (leb (replyLength (paramsIn st) expected) (length reply)) refl e
+
+-- ---- it has no record, so that it routes no voice and declares no byte
+
+none-recorded : (k : ℕ) → voiceRecord [] k ≡ []
+unfolding sectionsOf sectionOf fieldAt
+none-recorded k = simp (lt-leb (k * 0x170 + 0x170) 0 (omega arith))
+
+pub routes-none : (p : Params) (k : ℕ) → routes p [] k ≡ false
+unfolding routes flagAt fieldAt
+routes-none p k =
+    ap (λ (e : List ℕ). recordUsed e && hasDestination (fieldAt 4 e 0x58) (splitterOf (revisionOf p) e)) (none-recorded k)
+
+pub declares-none : (k : ℕ) → inputSpans [] k ≡ []
+unfolding inputSpans flagAt fieldAt
+declares-none k = ap (λ (e : List ℕ). cond (recordUsed e) (recordSpans e) []) (none-recorded k)
+
+-- ---- asked at any place of two sessions as in demand 3, it is answered alike, whatever their memories hold
+
+module _ (p : Params) (a b : State) (oa : openCall p a .number ≡ 0) (ob : openCall p b .number ≡ 0) (cs cs′ : List Call) (e : map shape cs ≡ map shape cs′) where
+  both-begun : Both p None (begun p a) (begun p b)
+  both-begun =
+      subst (λ (s : State). Both p None s (begun p b)) (sym (opens p a oa .0))
+      (subst (Both p None _) (sym (opens p b ob .0)) (opened-both p None (opens p a oa .1)))
+
+  pub positions-same : (r expected : ℕ) (reply reply′ : List ℕ) → length reply ≡ length reply′
+      → said (stateAt (begun p a) cs r) (asked expected reply) ≡ said (stateAt (begun p b) cs′ r) (asked expected reply′)
+  positions-same r expected reply reply′ l =
+      unasked (both-at both-begun cs cs′ e r) (asked expected reply) (asked expected reply′) (λ i. updates expected [] (l i)) .same
