@@ -1,5 +1,5 @@
--- An update whose input has no byte asks for the positions: it leaves the state alone, tells each voice's position as the state has it, routes and
--- declares nothing, and two sessions that differ in sound hear the same answer. Assumes nothing.
+-- An update whose input has no byte asks for the positions: it leaves the state alone, tells each voice's position as the state has it, and
+-- routes and declares nothing; two sessions that differ in sound hear the same answer. Assumes nothing.
 use mathlib.Core.Path.{_≡_, refl, ap, sym, subst, _∙_}
 use mathlib.Core.Bool.{Bool, true, false, cond, _&&_}
 use mathlib.Core.List.{List, [], map}
@@ -61,11 +61,13 @@ module _ (st : State) (expected : ℕ) (reply : List ℕ) where
         → statusIn (paramsIn st) k (take (outcomeBy whole room .size) (outcomeBy whole room .reply)) ≡ position
     unfolding outcomeBy updateDone updated updateReply
     told-by true true h e =
-        ap (statusIn (paramsIn st) k) (reply-front (paramsIn st) expected [] st reply (leb-true _ _ h)) ∙ reply-status (paramsIn st) expected [] _ _ _ k inside
+        ap (statusIn (paramsIn st) k) (reply-front (paramsIn st) expected [] st reply (leb-true _ _ h))
+        ∙ reply-status (paramsIn st) expected [] _ _ _ k inside
     told-by true false h e = absurd (omega arith)
     told-by false room h e = absurd (omega arith)
 
-    pub positions-told : said st (asked expected reply) .number ≡ 0 → statusIn (paramsIn st) k (said st (asked expected reply) .reply) ≡ position
+    pub positions-told : said st (asked expected reply) .number ≡ 0
+        → statusIn (paramsIn st) k (said st (asked expected reply) .reply) ≡ position
     unfolding updateCall outcomeBy
     positions-told e = told-by (wholeOf st) (leb (replyLength (paramsIn st) expected) (length reply)) refl e
 
@@ -86,7 +88,8 @@ declares-none k = ap (λ (e : List ℕ). cond (recordUsed e) (recordSpans e) [])
 
 -- ---- asked at any place of two sessions as in demand 3, it is answered alike, whatever their memories hold
 
-module _ (p : Params) (a b : State) (oa : openCall p a .number ≡ 0) (ob : openCall p b .number ≡ 0) (cs cs′ : List Call) (e : map shape cs ≡ map shape cs′) where
+module _ (p : Params) (a b : State) (oa : openCall p a .number ≡ 0) (ob : openCall p b .number ≡ 0)
+    (cs cs′ : List Call) (e : map shape cs ≡ map shape cs′) where
   both-begun : Both p None (begun p a) (begun p b)
   both-begun =
       subst (λ (s : State). Both p None s (begun p b)) (sym (opens p a oa .0))

@@ -55,7 +55,9 @@ unfolding computing startFor desk updatingAll rendering pcm laidFrom
 other-said = refl
 
 -- after it is asked the voice is heard, in each session its own; after the 63 bytes it isn't
-pub frames : (framesAt st one 5 ≡ frame 1 ++ frame 3) × (framesAt st other 5 ≡ frame 9 ++ frame 3) × (framesAt st one 9 ≡ silence ++ silence)
+pub frames : (framesAt st one 5 ≡ frame 1 ++ frame 3)
+    × (framesAt st other 5 ≡ frame 9 ++ frame 3)
+    × (framesAt st one 9 ≡ silence ++ silence)
 unfolding computing startFor desk updatingAll rendering pcm
 frames = (refl, refl, refl)
 
@@ -104,8 +106,8 @@ pub whole-reply : said (stateAt (begun effectParams slices) withEffect 2) (asked
   number = 0;
   size = 0x1a0;
   reply = laidFrom 0 0x1a0
-      (word 0x00 (revision 5) ∷ word 0x04 0xb0 ∷ word 0x08 0x50 ∷ word 0x0c 0x10 ∷ word 0x14 0x10 ∷ word 0x1c 0x20 ∷ word 0x20 0x10 ∷ word 0x28 0x10
-      ∷ word 0x3c 0x1a0 ∷ long 0x90 2 ∷ byte 0xa0 4 ∷ long 0x190 1 ∷ []);
+      (word 0x00 (revision 5) ∷ word 0x04 0xb0 ∷ word 0x08 0x50 ∷ word 0x0c 0x10 ∷ word 0x14 0x10 ∷ word 0x1c 0x20
+      ∷ word 0x20 0x10 ∷ word 0x28 0x10 ∷ word 0x3c 0x1a0 ∷ long 0x90 2 ∷ byte 0xa0 4 ∷ long 0x190 1 ∷ []);
   rounds = 0;
 }
 unfolding computing slicesFor updatingAll rendering laidFrom

@@ -15,7 +15,8 @@ use Rattle.secrecy.specs.Declared.{declared, routed}
 use Rattle.secrecy.specs.Demand.{AgreeOn, callAt, Condition}
 use Rattle.secrecy.specs.Secrecy.{demand3}
 use Rattle.secrecy.specs.Computing.{computing}
-use Rattle.secrecy.specs.Inputs.{laidFrom, noMix, params, revision, slices, start, startFor, desk, updating, updatingAll, rendering, pcmVoice, pcmLater, pcm, frame, silence}
+use Rattle.secrecy.specs.Inputs.{laidFrom, noMix, params, revision, slices, start, startFor}
+use Rattle.secrecy.specs.Inputs.{desk, updating, updatingAll, rendering, pcmVoice, pcmLater, pcm, frame, silence}
 use Rattle.secrecy_examples.specs.Answers.{told, rendered}
 
 -- the voice plays to no mix; a render; it is sent to mix 0; a render of zeros

@@ -1,5 +1,5 @@
--- A voice can be heard after an update with at least one byte where the input routes it, and nowhere else; after one without, where it could be heard
--- before. Assumes nothing.
+-- A voice can be heard after an update with at least one byte where the input routes it, and nowhere else; after one without, where it could
+-- be heard before. Assumes nothing.
 use mathlib.Core.Path.{_≡_, refl, ap, _∙_, subst}
 use mathlib.Core.Bool.{Bool, true, false, _&&_}
 use mathlib.Core.List.{List, [], _∷_}
@@ -23,7 +23,8 @@ use Rattle.voice_records.specs.Record.{recordUsed, filled, recorded}
 use Rattle.voices.specs.Voices.{VoiceRows, voiceStep, voicesOf}
 use Rattle.voices.specs.RowLaws.{done-zero, length-zero}
 use Rattle.voices.specs.Own.{wordsRowBy, stepVoice, wordsRow, words-step}
-use Rattle.updates.specs.Update.{Desk, withLists, withMixes, withSinks, afterDesk, withResources, voiceRowsIn, withVoices, afterVoices, changed, updated}
+use Rattle.updates.specs.Update.{Desk, withLists, withMixes, withSinks, afterDesk}
+use Rattle.updates.specs.Update.{withResources, voiceRowsIn, withVoices, afterVoices, changed, updated}
 use Rattle.state_voices.specs.StateVoices.{voiceOn, voiceIn}
 use Rattle.row_trips.specs.Marks.{flag-again}
 use Rattle.alike.specs.Alike.{live}

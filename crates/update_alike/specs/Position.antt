@@ -67,7 +67,8 @@ module _ (p : Params) (a b : State) (e : positionOf a ≡ positionOf b) where
       let r = voices-same _ n d (rowsIn n a) (rowsIn n b) (λ i. position (part (n * 58) 10 (e i .words)) (part (n * 14) 1 (e i .longs)) (part (n * 4) 0 (e i .floats))) in
       λ i. position (put (e i .words) 10 (r i .words)) (put (e i .longs) 1 (r i .longs)) (put (e i .floats) 0 (r i .floats))
 
-pub changed-same : (p : Params) (input : List ℕ) (a b : State) → positionOf a ≡ positionOf b → positionOf (changed p input a) ≡ positionOf (changed p input b)
+pub changed-same : (p : Params) (input : List ℕ) (a b : State) → positionOf a ≡ positionOf b
+    → positionOf (changed p input a) ≡ positionOf (changed p input b)
 unfolding changed afterVoices
 changed-same p input a b e =
     let v = with-voices-same p _ _ (resources-same p a b e (resourcesSection input)) (voicesSection input) in
@@ -75,7 +76,8 @@ changed-same p input a b e =
     let k = afterDesk p (sectionsOf input) input (desk (v i .words) (v i .floats)) in
     position (k .words) (v i .longs) (k .floats)
 
-pub updated-same : (p : Params) (input : List ℕ) (a b : State) → positionOf a ≡ positionOf b → positionOf (updated p input a) ≡ positionOf (updated p input b)
+pub updated-same : (p : Params) (input : List ℕ) (a b : State) → positionOf a ≡ positionOf b
+    → positionOf (updated p input a) ≡ positionOf (updated p input b)
 unfolding updated
 updated-same p [] a b e = e
 updated-same p (x ∷ xs) a b e = changed-same p (x ∷ xs) a b e

@@ -14,7 +14,8 @@ use Rattle.params.specs.Sizes.{revisionOf}
 use Rattle.state.specs.State.{State, stateOf, Sized, mixesOf, mixWords, resourceFloats, mixFloats, mixWordsIn, mixFloatsIn}
 use Rattle.desk_updates.specs.DeskUpdate.{resourcesAt}
 use Rattle.desk_updates.specs.Laws.{length-resources}
-use Rattle.updates.specs.Update.{Desk, VoicesInside, DeskUpdatable, Updatable, deskOf, withDesk, withResources, voiceRowsIn, putVoices, withVoices, afterVoices, afterDesk, changed}
+use Rattle.updates.specs.Update.{Desk, VoicesInside, DeskUpdatable, Updatable, deskOf, withDesk, withResources}
+use Rattle.updates.specs.Update.{voiceRowsIn, putVoices, withVoices, afterVoices, afterDesk, changed}
 use Rattle.updates.specs.VoiceRows.{voices-long}
 
 -- ---- the two, one after the other

@@ -15,14 +15,18 @@ update-desk-requires : tie.Need-update-desk-requires
 update-desk-requires c κs =
     let first = c .before .before .before .before .before .before .before .before .before .before .before .before in
     let start = first .before .before .before .before .before .before .before .before .before .before .before .before .before in
-    (first .before .before .before .before .before .before .read .ensures .1, subst (Updatable (start .args .p)) (sym (first .update-first .ensures)) (first-keep _ _ _ (given start) (start .pre)) .desk)
+    let read = first .before .before .before .before .before .before in
+    let kept = first-keep _ _ _ (given start) (start .pre) in
+    (read .read .ensures .1, subst (Updatable (start .args .p)) (sym (first .update-first .ensures)) kept .desk)
 
 returns : tie.Need-returns
 returns c =
     let second = c .before .before .before .before in
     let first = second .before .before .before .before .before .before .before .before .before .before .before .before .before in
     let start = first .before .before .before .before .before .before .before .before .before .before .before .before .before in
-    update-done (start .args .p) (start .args .input .now) (given start) (first .before .before .before .before .before .before .read .ensures .0) (first .update-first .ensures) (second .update-desk .ensures)
+    let read = first .before .before .before .before .before .before in
+    update-done (start .args .p) (start .args .input .now) (given start)
+    (read .read .ensures .0) (first .update-first .ensures) (second .update-desk .ensures)
 
 pub change-state-spec : {M : Type 1} → statement M
 change-state-spec =

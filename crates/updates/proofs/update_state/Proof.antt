@@ -12,14 +12,14 @@ given c = stateOf (c .args .words .now) (c .args .longs .now) (c .args .floats .
 
 returns : tie.Need-returns
 returns c =
-    let s = c .before .before .before .before .before .before .before in
-    updated-none (s .args .p) (s .args .input .now) (given s) (search needs)
+    let start = c .before .before .before .before .before .before .before in
+    updated-none (start .args .p) (start .args .input .now) (given start) (search needs)
 
 returns-2 : tie.Need-returns-2
 returns-2 c =
-    let s = c .before .before .before .before .before .before .before .before .before .before .before .before .before .before .before .before .before .before .before .before .before .before .before in
-    c .before .before .before .before .before .before .before .before .before .before .change-state .ensures
-    ∙ updated-some (s .args .p) (s .args .input .now) (given s) (search needs)
+    let done = c .before .before .before .before .before .before .before .before .before .before in
+    let start = done .before .before .before .before .before .before .before .before .before .before .before .before .before in
+    done .change-state .ensures ∙ updated-some (start .args .p) (start .args .input .now) (given start) (search needs)
 
 pub update-state-spec : {M : Type 1} → statement M
 update-state-spec =
