@@ -28,6 +28,10 @@ empty. Records that are missing, or not whole, change nothing, but a voice witho
 are not read. The splitters have no size in the header: where their magic stands they end behind the last record, at the next multiple
 of 16 bytes from their beginning; elsewhere they have no byte. The mixes begin there. What stands behind the sinks is not read.
 
+**No bytes.** An input of length 0 asks how far the voices have played. Nothing changes by it, no voice goes out of use, and the reply
+has `played` and `consumed` of each voice as they stand. Pools read 0 and effects 4, as where their sections are missing; the rest of
+the reply is as ever. An input of one byte is an update like any other: its sections are empty, and every voice goes out of use.
+
 ## A reply
 
 Its length is that of all sections below; the effects share what the expected size leaves beyond the others, as many whole bytes for

@@ -25,9 +25,9 @@
 extern "C" {
 #endif
 
-#define JEQLLUNA_VERSION "0.3.0"
+#define JEQLLUNA_VERSION "0.4.0"
 #define JEQLLUNA_VERSION_MAJOR 0
-#define JEQLLUNA_VERSION_MINOR 3
+#define JEQLLUNA_VERSION_MINOR 4
 #define JEQLLUNA_VERSION_PATCH 0
 
 /* The bytes of stack that a call takes at most; measured, and held to by bindings/stack. */
@@ -158,7 +158,9 @@ uint32_t jeqlluna_open(
     uint16_t *contexts, size_t contexts_len, float *history, size_t history_len);
 
 /* A title's update. expected is the size of reply that the title expects, input its bytes. The reply goes to the front of its slice; bytes
- * beyond it stay. Refusals: 4, 6. */
+ * beyond it stay. Where input_len is 0 the five slices stay as they are, and the reply tells the positions as they stand: played and
+ * consumed of each voice in use, 0 and 0 while it is fresh. Any longer input puts each voice out of use whose record is missing from it.
+ * Refusals: 4, 6. */
 JeqllunaUpdate jeqlluna_update(
     uint32_t *words, size_t words_len, uint64_t *longs, size_t longs_len, float *floats, size_t floats_len,
     uint16_t *contexts, size_t contexts_len, float *history, size_t history_len,

@@ -42,7 +42,8 @@
 /* f32[24]: Gain to each buffer of the mix that the voice goes to; a render moves from the last gains to these. */
 #define JEQLLUNA_CHANNEL_RESOURCE_GAINS 0x04
 
-/* A voice. Voice k has record k; one whose record is missing or not in use is silent, and keeps the rest of its state. */
+/* A voice. Voice k has record k; one whose record is missing or not in use is silent, and keeps the rest of its state. An input of no bytes
+ * leaves all voices as they are. */
 #define JEQLLUNA_VOICE_SIZE 0x170 /* bytes of the record */
 #define JEQLLUNA_VOICE_IS_NEW 0x008 /* flag: The voice starts from nothing: queue, position and sound of the one before are forgotten. */
 #define JEQLLUNA_VOICE_IN_USE 0x009 /* flag: Whether the voice is in use; if not, the rest of the record is not read. */

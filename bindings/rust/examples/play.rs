@@ -1,8 +1,8 @@
 //! Plays a clip: one voice, a decaying tone of 16-bit PCM, through the final mix to the sink. Prints for each render the loudest frame,
-//! and what the reply says of how far the voice has played.
+//! and how far the voice has played.
 //!
 //!     cargo run --example play
-use jeqlluna::{Parameters, Refusal, Renderer, revision};
+use jeqlluna::{Parameters, Position, Refusal, Renderer, revision};
 
 const SAMPLES: usize = 240;
 const CLIP: usize = 1000;
@@ -18,16 +18,16 @@ fn record(size: usize, fields: &[(usize, u32)]) -> Vec<u8> {
     bytes
 }
 
-/// The title's update; `new` starts the clip.
-fn update(new: bool) -> Vec<u8> {
+/// The title's update, which starts the clip.
+fn update() -> Vec<u8> {
     let one = 1f32.to_bits();
     // The channel's gain to both buffers of the mix.
     let resource = record(0x70, &[(0x04, one), (0x08, one)]);
-    // In use, started, 16-bit PCM, 48000 Hz, one channel, pitch and volume 1, one buffer, to mix 0 and no splitter.
-    let flags = u32::from_le_bytes([u8::from(new), 1, 0, 2]);
+    // New, in use, started, 16-bit PCM, 48000 Hz, one channel, pitch and volume 1, one buffer, to mix 0 and no splitter.
+    let flags = u32::from_le_bytes([1, 1, 0, 2]);
     let head = record(0x60, &[(0x08, flags), (0x0c, 48000), (0x18, 1), (0x1c, one), (0x20, one), (0x3c, 1), (0x5c, u32::MAX)]);
-    // The clip: address, size and end. The byte at 0x1a says that a buffer was sent before.
-    let clip = record(0x38, &[(0x00, BASE as u32), (0x08, CLIP as u32 * 2), (0x14, CLIP as u32), (0x18, if new { 0 } else { 1 << 16 })]);
+    // The clip: address, size and end. The byte at 0x1a says that a slot's buffer was sent before, or that there is none.
+    let clip = record(0x38, &[(0x00, BASE as u32), (0x08, CLIP as u32 * 2), (0x14, CLIP as u32)]);
     let sent = record(0x38, &[(0x18, 1 << 16)]);
     let tail = record(0x30, &[]);
     // The final mix with two buffers and volume 1, and the device sink on these.
@@ -51,15 +51,12 @@ fn main() -> Result<(), Refusal> {
     let memory: Vec<u8> = (0..CLIP).flat_map(|k| (tone(k) as i16).to_le_bytes()).collect();
 
     let mut renderer = Renderer::open(&parameters)?;
-    renderer.update(0, &update(true), 4096)?;
+    renderer.update(0, &update(), 4096)?;
     for k in 0..6 {
         let mut frames = [0.0f32; 2 * SAMPLES];
         renderer.render(BASE, &memory, &mut frames)?;
         let loudest = frames.iter().fold(0f32, |most, x| most.max(x.abs()));
-        // The voice's status stands behind the header and the four pools.
-        let reply = renderer.update(0, &update(false), 4096)?;
-        let played = u64::from_le_bytes(reply[0x80..0x88].try_into().expect("eight bytes"));
-        let consumed = u32::from_le_bytes(reply[0x88..0x8c].try_into().expect("four bytes"));
+        let Position { played, consumed } = renderer.positions()?[0];
         println!("render {k}: loudest {loudest:.3}, played {played}, consumed {consumed}");
     }
     Ok(())

@@ -16,12 +16,15 @@
 //! # Ok::<(), jeqlluna::Refusal>(())
 //! ```
 //!
+//! An update without input, as here, changes nothing and tells how far the voices have played; [`Renderer::positions`] reads its reply.
+//!
 //! [`decode_adpcm`], [`read_dsp`] and [`write_dsp`] need no renderer: ADPCM alone, and clips as DSP files.
 //!
 //! # Memory
 //!
 //! A renderer holds at most [`MOST_HELD`] bytes, whatever its parameters. A reply is as long as a title's numbers make it, so
-//! [`Renderer::update`] takes a limit, and [`Renderer::update_into`] a slice. Nothing else is allocated.
+//! [`Renderer::update`] takes a limit, and [`Renderer::update_into`] a slice. [`Renderer::positions`] takes at most 6,672 bytes for a reply
+//! while it runs and gives 16 for each voice, [`Renderer::mix_order`] 4 for each sub-mix that runs. Nothing else is allocated.
 //!
 //! # The floating-point mode
 //!
@@ -36,6 +39,7 @@ mod adpcm;
 mod dsp;
 mod mode;
 mod parameters;
+mod positions;
 mod refusal;
 mod renderer;
 pub mod sys;
@@ -50,6 +54,7 @@ struct Readme;
 pub use adpcm::decode_adpcm;
 pub use dsp::{read_dsp, write_dsp};
 pub use parameters::{PARAMETERS, Parameters, revision};
+pub use positions::Position;
 pub use refusal::Refusal;
 pub use renderer::{MOST_HELD, Renderer};
 pub use sys::{AdpcmContext, DspHeader};

@@ -65,6 +65,9 @@ impl Renderer {
 
     /// A title's update; `expected` is the size of reply that the title expects, `input` its bytes. Gives the reply.
     ///
+    /// An input of no bytes leaves the renderer as it is, and the reply tells how far each voice has played ([`Renderer::positions`] reads
+    /// it). Any longer input puts each voice out of use whose record is missing from it.
+    ///
     /// A reply longer than `limit` bytes is refused by 6, before anything is allocated for it; so is one for which there is no memory.
     pub fn update(&mut self, expected: u32, input: &[u8], limit: usize) -> Result<Vec<u8>, Refusal> {
         let size = self.reply_length(expected)?;

@@ -169,7 +169,8 @@ unsafe extern "C" {
         history_len: usize,
     ) -> u32;
 
-    /// A title's update; the reply goes to the front of its slice. Refusals: 4, 6.
+    /// A title's update; the reply goes to the front of its slice. An input of length 0 leaves the five slices as they are, and the reply
+    /// tells the positions as they stand. Refusals: 4, 6.
     pub fn jeqlluna_update(
         words: *mut u32,
         words_len: usize,

@@ -3,6 +3,7 @@ mod adpcm;
 mod dsp;
 mod lengths;
 mod modes;
+mod positions;
 mod refusals;
 mod sessions;
 mod title;
