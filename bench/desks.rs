@@ -4,8 +4,16 @@ use crate::inputs::{Sections, put, put_u32};
 use crate::port;
 use oracle::mixer::probe::Slices;
 use oracle::renderer::Probe;
+use std::ops::Range;
 
 const REVISION: &[u8; 4] = b"REV8";
+
+/// An update of these sections.
+fn input(s: Sections) -> Vec<u8> {
+    let mut header = vec![0; 0x40];
+    put(&mut header, 0, REVISION);
+    s.join(header)
+}
 
 /// What the voices do, as their records say it.
 #[derive(Clone, Copy)]
@@ -52,10 +60,10 @@ impl Desk {
         d
     }
 
-    /// A new voice whose first wave buffer loops for good.
-    fn voice(&self, v: usize, memory: usize) -> Vec<u8> {
+    /// A voice, new or going on, whose first wave buffer loops for good.
+    fn voice(&self, v: usize, memory: usize, new: bool) -> Vec<u8> {
         let mut d = vec![0; 0x170];
-        (d[8], d[9], d[0x0a], d[0x0b]) = (1, 1, self.play as u8, 2);
+        (d[8], d[9], d[0x0a], d[0x0b]) = (u8::from(new), 1, self.play as u8, 2);
         put_u32(&mut d, 0x0c, 48000);
         put_u32(&mut d, 0x18, if v % 4 == 0 { 2 } else { 1 });
         put(&mut d, 0x1c, &1.0f32.to_le_bytes());
@@ -68,7 +76,7 @@ impl Desk {
         put_u32(&mut d, 0x74, 9000 + v as u32 * 100);
         d[0x78] = 1;
         put_u32(&mut d, 0x7c, u32::MAX);
-        for b in 1..4 {
+        for b in usize::from(new)..4 {
             d[0x60 + b * 0x38 + 0x1a] = 1;
         }
         put_u32(&mut d, 0x140, v as u32);
@@ -89,9 +97,14 @@ impl Desk {
         d
     }
 
-    /// The update that sets the desk up.
-    fn input(&self, memory: usize) -> Vec<u8> {
-        let mut s = Sections { voices: (0..self.voices).flat_map(|v| self.voice(v, memory)).collect(), ..Sections::default() };
+    /// The records of all voices, and no others.
+    fn voices_alone(&self, memory: usize, new: bool) -> Sections {
+        Sections { voices: (0..self.voices).flat_map(|v| self.voice(v, memory, new)).collect(), ..Sections::default() }
+    }
+
+    /// The records of the whole desk.
+    fn whole(&self, memory: usize, new: bool) -> Sections {
+        let mut s = self.voices_alone(memory, new);
         for _ in 0..self.voices {
             let mut d = vec![0; 0x70];
             for side in 0..2 {
@@ -108,14 +121,23 @@ impl Desk {
             put_u32(&mut d, 0x120, 2);
             s.sinks.extend(d);
         }
-        let mut header = vec![0; 0x40];
-        put(&mut header, 0, REVISION);
-        s.join(header)
+        s
+    }
+
+    /// Updates while the voices go on, in words and bytes.
+    pub fn later(&self, memory: usize) -> [(&'static str, Vec<u8>); 2] {
+        [("the voices", self.voices_alone(memory, false)), ("the whole desk", self.whole(memory, false))].map(|(what, s)| (what, input(s)))
+    }
+
+    /// Where a reply has the voices' positions: behind the header and four pools for each voice, as there are no effects.
+    pub fn told(&self) -> Range<usize> {
+        let at = 0x40 + self.voices * 4 * 0x10;
+        at..at + self.voices * 0x10
     }
 
     /// Both renderers, opened and updated.
     pub fn open(&self, memory: usize) -> (Slices, Probe) {
-        let (parameters, input) = (self.parameters(), self.input(memory));
+        let (parameters, input) = (self.parameters(), input(self.whole(memory, true)));
         let n = port::lengths(&parameters);
         assert_eq!(n.number, 0, "{}", self.name);
         let mut s = Slices {
@@ -141,3 +163,7 @@ pub const DESKS: [Desk; 3] = [
     Desk { name: "1 sample, no voices, mixes or sinks", samples: 1, voices: 0, sub_mixes: 0, sinks: 0, play: Play::Paused, times: 1000 },
     Desk::title("24 voices, 240 samples, PCM16 at 48000 Hz, by updates", Play::Started),
 ];
+
+/// Desks of which the positions are asked.
+pub const ASKED: [Desk; 2] =
+    [Desk::title("24 voices", Play::Started), Desk { voices: 64, ..Desk::title("64 voices", Play::Started) }];

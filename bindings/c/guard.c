@@ -162,6 +162,9 @@ static void session(const Counts *c, int at_end, uint64_t seed) {
             update(&g, &plain, c, title, size, at_end, &seed);
             order(&g, &plain, held);
         }
+        if (k % 4 == 2) {
+            update(&g, &plain, c, title, 0, at_end, &seed); /* no input */
+        }
         render(&g, &plain, c, memory, bytes, at_end, &seed);
         decode(at_end, &seed);
         dsp(at_end, &seed);

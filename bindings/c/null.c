@@ -91,8 +91,6 @@ static void calls_of(const Counts *counts) {
          desk_update(&b, 9000, some, 0, other, sizeof other).size);
     hold("reply", memcmp(reply, other, sizeof reply) == 0, 1);
     hold("state", same_desks(&a, &b), 1);
-    hold("update", desk_update(&a, 0, title, size, reply, sizeof reply).number, 0);
-    hold("update", desk_update(&b, 0, title, size, other, sizeof other).number, 0);
     hold("render without memory", desk_render(&a, NULL, 0, frames, 512).rounds, desk_render(&b, some, 0, others, 512).rounds);
     hold("frames", memcmp(frames, others, sizeof frames) == 0, 1);
     hold("state", same_desks(&a, &b), 1);

@@ -86,6 +86,24 @@ void close_desk(Desk *d) {
     free(d->words), free(d->longs), free(d->floats), free(d->contexts), free(d->history);
 }
 
+static void *copy(const void *data, size_t bytes) {
+    void *p = room(bytes);
+    if (bytes != 0) {
+        memcpy(p, data, bytes);
+    }
+    return p;
+}
+
+Desk copy_desk(const Desk *d) {
+    Desk c = *d;
+    c.words = (uint32_t *)copy(d->words, d->n.words * sizeof *d->words);
+    c.longs = (uint64_t *)copy(d->longs, d->n.longs * sizeof *d->longs);
+    c.floats = (float *)copy(d->floats, d->n.floats * sizeof *d->floats);
+    c.contexts = (uint16_t *)copy(d->contexts, d->n.contexts * sizeof *d->contexts);
+    c.history = (float *)copy(d->history, d->n.history * sizeof *d->history);
+    return c;
+}
+
 uint64_t sum(uint64_t from, const void *data, size_t bytes) {
     const uint8_t *d = (const uint8_t *)data;
     size_t k;

@@ -44,6 +44,9 @@ void put_parameters(uint8_t parameters[JEQLLUNA_PARAMETERS], const Counts *c);
 Desk open_desk(const Counts *c);
 void close_desk(Desk *d);
 
+/* The same five slices once more, on the heap. */
+Desk copy_desk(const Desk *d);
+
 uint32_t desk_open(Desk *d, const uint8_t *parameters, size_t length);
 JeqllunaUpdate desk_update(Desk *d, uint32_t expected, const uint8_t *input, size_t length, uint8_t *reply, size_t reply_length);
 JeqllunaRender desk_render(Desk *d, const uint8_t *memory, size_t length, float *frames, size_t count);

@@ -1,5 +1,5 @@
-//! Bad input never ends a process: a million updates with random and hostile numbers, renders and DSP files in between, under a limit of
-//! 256 MB of memory.
+//! Bad input never ends a process: a million updates with random and hostile numbers, positions, renders and DSP files in between, under a
+//! limit of 256 MB of memory.
 //!
 //!     cargo build --release --example hostile && prlimit --as=268435456 target/release/examples/hostile [UPDATES]
 //!
@@ -185,6 +185,9 @@ fn main() -> ExitCode {
                 looked += 1;
                 assert_eq!(next(&before, &memory), next(&renderer, &memory), "a refusal changed something");
             }
+            if r.below(8) == 0 {
+                count(&mut tally, "positions", &renderer.positions());
+            }
             files(r, &mut tally);
             if r.below(4) == 0 {
                 let mut frames = [0.0; 512];
@@ -198,8 +201,14 @@ fn main() -> ExitCode {
         println!("{call} answered {number}: {n}");
     }
     println!("{made} updates, the longest reply {longest} bytes; of the refused {looked} were looked at, and none had changed anything");
-    let due =
-        [("open", &[0, 1, 2][..]), ("read_dsp", &[0, 11, 12]), ("render", &[0, 5, 7]), ("update", &[0, 6]), ("write_dsp", &[0, 11, 12])];
+    let due = [
+        ("open", &[0, 1, 2][..]),
+        ("positions", &[0]),
+        ("read_dsp", &[0, 11, 12]),
+        ("render", &[0, 5, 7]),
+        ("update", &[0, 6]),
+        ("write_dsp", &[0, 11, 12]),
+    ];
     let due: Vec<_> = due.into_iter().flat_map(|(call, numbers)| numbers.iter().map(move |&n| (call, n))).collect();
     let came: Vec<_> = tally.keys().copied().collect();
     if updates >= 10_000 && came != due {
