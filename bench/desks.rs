@@ -165,5 +165,4 @@ pub const DESKS: [Desk; 3] = [
 ];
 
 /// Desks of which the positions are asked.
-pub const ASKED: [Desk; 2] =
-    [Desk::title("24 voices", Play::Started), Desk { voices: 64, ..Desk::title("64 voices", Play::Started) }];
+pub const ASKED: [Desk; 2] = [Desk::title("24 voices", Play::Started), Desk { voices: 64, ..Desk::title("64 voices", Play::Started) }];

@@ -159,8 +159,8 @@ uint32_t jeqlluna_open(
 
 /* A title's update. expected is the size of reply that the title expects, input its bytes. The reply goes to the front of its slice; bytes
  * beyond it stay. Where input_len is 0 the five slices stay as they are, and the reply tells the positions as they stand: played and
- * consumed of each voice in use, 0 and 0 while it is fresh. Any longer input puts each voice out of use whose record is missing from it.
- * Refusals: 4, 6. */
+ * consumed of each voice in use, but 0 and 0 of one that is new until a render has taken it on, and of those not in use. Any longer input
+ * puts each voice out of use whose record is missing from it. Refusals: 4, 6. */
 JeqllunaUpdate jeqlluna_update(
     uint32_t *words, size_t words_len, uint64_t *longs, size_t longs_len, float *floats, size_t floats_len,
     uint16_t *contexts, size_t contexts_len, float *history, size_t history_len,

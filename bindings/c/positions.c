@@ -27,13 +27,14 @@ static void hold(const char *what, int same) {
     }
 }
 
-/* Voice v's buffer, whose loop is taken away from every second voice. */
+/* The record of voice v's one buffer in a title. */
 static uint8_t *wave(uint8_t *title, const Counts *c, uint32_t v) {
     size_t pools = (4 * c->voices + c->effects) * (size_t)JEQLLUNA_POOL_SIZE;
     size_t resources = c->voices * (size_t)JEQLLUNA_CHANNEL_RESOURCE_SIZE;
     return title + JEQLLUNA_UPDATE_HEADER_SIZE + pools + resources + v * (size_t)JEQLLUNA_VOICE_SIZE + JEQLLUNA_VOICE_WAVES;
 }
 
+/* A title whose voices play at pitch 1; the buffer of every second one does not loop. */
 static void put_clips(uint8_t *title, const Counts *c, int fresh, uint64_t *seed) {
     const Sound sound = {2, 1.0f, 0.5f};
     uint32_t v;
@@ -51,7 +52,7 @@ static void position(uint8_t *title, const Counts *c, uint32_t v, uint64_t sampl
     *played = *consumed != 0 ? length : samples;
 }
 
-/* Asks. The voices have taken so many samples, or none where they are fresh or out of use. */
+/* Asks by an update without input; each voice has taken so many samples, or is fresh or out of use where they are 0. */
 static void ask(Desk *d, const Counts *c, uint8_t *title, uint64_t samples) {
     static uint8_t reply[REPLY], other[REPLY];
     const uint8_t byte[1] = {0};

@@ -24,8 +24,8 @@ pub struct Position {
 }
 
 impl Renderer {
-    /// How far each voice has played, as the last render left it: the reply to an update without input, read. The renderer stays as it
-    /// is to the bit, so that a title may ask at any time, and as often as it likes.
+    /// How far each voice has played: the reply to an update without input, read. The renderer stays as it is to the bit, so that a title
+    /// may ask at any time, and as often as it likes.
     ///
     /// ```
     /// use jeqlluna::{Parameters, Position, Renderer, revision};

@@ -106,7 +106,7 @@ fn out_of_use() {
     }
 }
 
-/// 64 voices: voice k plays from its own pitch on, every fifth is not in use, every seventh of the others has nothing queued.
+/// 64 voices: voice k has a pitch of k sixteenths; every fifth is not in use, every seventh has nothing queued and stays fresh.
 #[test]
 fn sixty_four_voices() {
     let one = title(1.0, true);
