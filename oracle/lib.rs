@@ -8,6 +8,7 @@ use std::cell::Cell;
 
 thread_local! {
     static ROUNDS: Cell<u64> = const { Cell::new(0) };
+    static EMPTY: Cell<[u64; 2]> = const { Cell::new([0; 2]) };
 }
 
 /// Counts a round of `fetch` that got past its first test.
@@ -18,6 +19,17 @@ pub fn count_round() {
 /// The rounds counted since the last call.
 pub fn take_rounds() -> u64 {
     ROUNDS.replace(0)
+}
+
+/// Counts an empty update that follows document 02's rule, and whether it tells a position that isn't 0.
+pub fn count_empty(told: bool) {
+    let [all, telling] = EMPTY.get();
+    EMPTY.set([all + 1, telling + u64::from(told)]);
+}
+
+/// The empty updates counted since the last call, and those of them that tell a position that isn't 0.
+pub fn take_empty() -> [u64; 2] {
+    EMPTY.replace([0; 2])
 }
 
 /// Stands where kirikae has guest memory; sample memory comes through `mixer::Mem`.

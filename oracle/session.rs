@@ -45,11 +45,17 @@ impl Session {
         self.samples
     }
 
-    /// An update with this much room for the reply.
-    pub fn update(&mut self, expected: u32, input: &[u8], room: usize) -> Result<Vec<u8>, u32> {
+    /// Question 6: is there room for the reply?
+    pub fn question_6(&self, expected: u32, room: usize) -> Result<(), u32> {
         if room < self.reply_length(expected) {
             return Err(6);
         }
+        Ok(())
+    }
+
+    /// An update with this much room for the reply.
+    pub fn update(&mut self, expected: u32, input: &[u8], room: usize) -> Result<Vec<u8>, u32> {
+        self.question_6(expected, room)?;
         Ok(self.renderer.update(input, expected as usize))
     }
 
@@ -151,6 +157,7 @@ mod tests {
     /// Parameters with this many samples and voices, no memory, and these calls.
     fn input(samples: u32, voices: u32, count: u32, calls: &[u8]) -> Vec<u8> {
         let mut p = [0u8; 0x34];
+        p[..4].copy_from_slice(&48000u32.to_le_bytes());
         p[4..8].copy_from_slice(&samples.to_le_bytes());
         p[0x10..0x14].copy_from_slice(&voices.to_le_bytes());
         p[0x30..].copy_from_slice(&0x3556_4552u32.to_le_bytes());
@@ -168,6 +175,49 @@ mod tests {
             reply 272 0000:35564552 0004:000000b0 0020:00000010 0028:00000010 003c:00000110 0100:00000001\n";
         assert_eq!(program(&input(2, 0, 2, &calls), true), printed);
         assert_eq!(program(&input(2, 0, 2, &calls), false), printed);
+    }
+
+    /// An update with one voice, new and started, at 48,000 Hz, with a buffer of ten samples of a format that is silence, and no route.
+    fn record() -> Vec<u8> {
+        let mut d = vec![0; 0x40 + 0x170];
+        let put = |d: &mut [u8], at: usize, v: u32| d[at..at + 4].copy_from_slice(&v.to_le_bytes());
+        put(&mut d, 0x0c, 0x170);
+        let voice = &mut d[0x40..];
+        voice[8..10].fill(1);
+        for b in 1..4 {
+            voice[0x60 + b * 0x38 + 0x1a] = 1;
+        }
+        for (at, v) in [(0x0c, 48000), (0x18, 1), (0x1c, 1f32.to_bits()), (0x3c, 1), (0x58, 0x7fff_ffff), (0x5c, u32::MAX), (0x74, 10)] {
+            put(voice, at, v);
+        }
+        [&[0][..], &0u32.to_le_bytes(), &(d.len() as u32).to_le_bytes(), &d].concat()
+    }
+
+    /// Document 02, L2: an empty update tells the position of a voice that has played, and the voice plays on; a single byte puts it out of use.
+    #[test]
+    fn empty_updates() {
+        let told = |elapsed: u32, played: u32, consumed: u32| {
+            let position = [(0x80, played), (0x88, consumed)].into_iter().filter(|w| w.1 != 0).map(|(at, v)| format!(" {at:04x}:{v:08x}"));
+            let header = "reply 352 0000:35564552 0004:000000b0 0008:00000040 000c:00000010 0020:00000010 0028:00000010 003c:00000160";
+            let elapsed = if elapsed == 0 { String::new() } else { format!(" 0150:{elapsed:08x}") };
+            format!("{header}{}{elapsed}\n", position.collect::<String>())
+        };
+        let silent = "frames 4 00000000 00000000 00000000 00000000 00000000 00000000 00000000 00000000\n";
+        let byte = [&[0][..], &[0; 4], &[1, 0, 0, 0, 0]].concat();
+        let calls = [&record()[..], &update(0), &[1], &update(0), &update(0), &[1, 1], &update(0), &byte, &update(0)].concat();
+        let printed = [
+            &told(0, 0, 0)[..],
+            &told(0, 0, 0),
+            silent,
+            &told(1, 4, 0),
+            &told(1, 4, 0),
+            silent,
+            silent,
+            &told(3, 10, 1),
+            &told(3, 0, 0),
+            &told(3, 0, 0),
+        ];
+        assert_eq!(program(&input(4, 1, 10, &calls), true), printed.concat());
     }
 
     #[test]
