@@ -4,6 +4,7 @@ use crate::inputs::{Sections, cut, damage, input};
 use crate::random::Random;
 use crate::refusals::{refused, refused_opens};
 use crate::title::Title;
+use oracle::renderer::Probe;
 
 pub const MODES: [&str; 7] = ["played", "routes", "damaged", "random", "refused", "limits", "small"];
 
@@ -71,6 +72,12 @@ fn expected(r: &mut Random, p: &[u32]) -> u32 {
         1 => r.below(0x4000) as u32,
         _ => 0x40 + (p[6] + p[4] * 4) * 0x10 + p[4] * 0x10 + p[5] * 0x20 + 0xd0 + p[6] * 0x10,
     }
+}
+
+/// Bytes that are too few for an update's header: 1 to 63.
+pub fn short(r: &mut Random) -> Vec<u8> {
+    let n = [1, 63, 1 + r.below(63) as usize][r.below(3) as usize];
+    r.bytes(n)
 }
 
 /// A title's calls: a few renders after each update.
@@ -186,26 +193,21 @@ pub fn session(r: &mut Random, mode: &str) -> Session {
     Session { opens, calls }
 }
 
-/// A session as the session program's input, with the first render's memory, and as many of its calls as 65,536 bytes hold. Every other one is damaged.
-pub fn program(r: &mut Random, damaged: bool) -> Vec<u8> {
-    let Session { opens, mut calls } = session(r, "small");
-    let memory = calls.iter().find_map(|c| if let Call::Render { memory, .. } = c { Some(memory.clone()) } else { None }).unwrap_or_default();
-    let block = |d: &[u8]| [&(d.len() as u32).to_le_bytes()[..], d].concat();
-    loop {
-        let coded = calls.iter().flat_map(|c| match c {
-            Call::Update { expected, input, .. } => [&[0][..], &expected.to_le_bytes(), &block(input)].concat(),
-            Call::Render { .. } => vec![1],
-        });
-        let mut d = [block(&opens[0].parameters), block(&memory), (calls.len() as u32).to_le_bytes().to_vec(), coded.collect()].concat();
-        if d.len() <= 65_536 {
-            match r.below(3) {
-                _ if !damaged => {}
-                0 => cut(r, &mut d),
-                1 => damage(r, &mut d),
-                _ => d.extend(r.bytes(1)),
-            }
-            return d;
+/// A session in which an empty update comes after one call in five, one in eight of them refused for want of a byte, and bytes too few for
+/// a header after one call in forty.
+pub fn asking(r: &mut Random, mode: &str) -> Session {
+    let Session { opens, calls } = session(r, mode);
+    let p = Probe::parameters(&opens[opens.len() - 1].parameters);
+    let mut out = Vec::new();
+    for call in calls {
+        out.push(call);
+        if r.below(5) == 0 {
+            let spare = if r.below(8) == 0 { -1 } else { r.below(3) as i64 };
+            out.push(Call::Update { expected: expected(r, &p), input: vec![], spare });
         }
-        calls.pop();
+        if r.below(40) == 0 {
+            out.push(Call::Update { expected: expected(r, &p), input: short(r), spare: 0 });
+        }
     }
+    Session { opens, calls: out }
 }

@@ -67,6 +67,13 @@ pub fn seen(s: &Slices) -> (Vec<u32>, Vec<u64>, Vec<u32>, Vec<u16>, Vec<u32>) {
     (words, s.longs.clone(), floats, s.contexts.clone(), all(&s.history))
 }
 
+/// Whether two states are the same to the bit, as where a call is refused.
+pub fn unchanged(a: &Slices, b: &Slices) -> bool {
+    let bits = |s: &[f32]| s.iter().map(|x| x.to_bits()).collect::<Vec<u32>>();
+    let numbers = (&a.words, &a.longs, &a.contexts) == (&b.words, &b.longs, &b.contexts);
+    numbers && bits(&a.floats) == bits(&b.floats) && bits(&a.history) == bits(&b.history)
+}
+
 /// The bits of floats, with every NaN counted as one.
 pub fn all(s: &[f32]) -> Vec<u32> {
     s.iter().map(|&x| bits(x)).collect()

@@ -3,14 +3,19 @@ use crate::generate::BASE;
 use crate::modes::{Call, Open, parameter_bytes};
 use crate::random::Random;
 
-/// Refused calls are put between the others.
+/// Refused calls are put between the others, of the updates every fourth with an empty input.
 pub fn refused(r: &mut Random, calls: Vec<Call>) -> Vec<Call> {
     let mut out = Vec::new();
     for call in calls {
         while r.below(2) == 0 {
             let mut no = call.clone();
             match &mut no {
-                Call::Update { spare, .. } => *spare = -1 - [0, r.below(64) as i64, 1 << 20][r.below(3) as usize],
+                Call::Update { input, spare, .. } => {
+                    *spare = -1 - [0, r.below(64) as i64, 1 << 20][r.below(3) as usize];
+                    if r.below(4) == 0 {
+                        input.clear();
+                    }
+                }
                 Call::Render { base, memory, spare } => {
                     if r.below(2) == 0 {
                         *base = [(1 << 63) - memory.len() as u64 + 1, 1 << 63, u64::MAX - r.below(64), u64::MAX - memory.len() as u64 + 1][r.below(4) as usize];

@@ -1,7 +1,7 @@
 #!/usr/bin/env python3
-"""edits.py FROM TO [rules]: copies kirikae's audio sources from FROM to TO with document 01's edits, and with `rules` also with document 02's rules;
-docs/DIFFERENCES.md has their reasons. An edit whose text does not stand in its file exactly once stops the build, so that the oracle is never something
-else unnoticed."""
+"""edits.py FROM TO [rules]: copies kirikae's audio sources from FROM to TO with document 01's edits, and with `rules` also with document
+02's rules; docs/DIFFERENCES.md has their reasons. An edit whose text does not stand in its file exactly once stops the build, so that the
+oracle is never something else unnoticed."""
 import os
 import sys
 

@@ -193,14 +193,13 @@ mod tests {
         [&[0][..], &0u32.to_le_bytes(), &(d.len() as u32).to_le_bytes(), &d].concat()
     }
 
-    /// Document 02, L2: an empty update tells the position of a voice that has played, and the voice plays on; a single byte puts it out of use.
+    /// Document 02, L2: an empty update tells the position of a voice that has played, and the voice plays on; a byte puts it out of use.
     #[test]
     fn empty_updates() {
         let told = |elapsed: u32, played: u32, consumed: u32| {
-            let position = [(0x80, played), (0x88, consumed)].into_iter().filter(|w| w.1 != 0).map(|(at, v)| format!(" {at:04x}:{v:08x}"));
             let header = "reply 352 0000:35564552 0004:000000b0 0008:00000040 000c:00000010 0020:00000010 0028:00000010 003c:00000160";
-            let elapsed = if elapsed == 0 { String::new() } else { format!(" 0150:{elapsed:08x}") };
-            format!("{header}{}{elapsed}\n", position.collect::<String>())
+            let words = [(0x80, played), (0x88, consumed), (0x150, elapsed)].into_iter().filter(|w| w.1 != 0);
+            format!("{header}{}\n", words.map(|(at, v)| format!(" {at:04x}:{v:08x}")).collect::<String>())
         };
         let silent = "frames 4 00000000 00000000 00000000 00000000 00000000 00000000 00000000 00000000\n";
         let byte = [&[0][..], &[0; 4], &[1, 0, 0, 0, 0]].concat();

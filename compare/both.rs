@@ -1,0 +1,146 @@
+//! A session on both sides, the port and the oracle: after each call its answer, the reply or the frames and rounds, and the whole state.
+use crate::empty::{self, Reached};
+use crate::modes::{Call, Open, Session};
+use crate::port::{self, Lengths, Render, Update, all, place, places, seen, unchanged};
+use oracle::mixer::probe::Slices;
+use oracle::session::Session as Oracle;
+
+/// What is linked as the oracle: the Rust, which isn't given empty updates, or the Rust with document 02's rules, which is given all.
+#[allow(dead_code)]
+#[derive(Clone, Copy, PartialEq)]
+pub enum Judge {
+    Rust,
+    Rules,
+}
+
+#[derive(Default)]
+pub struct Tally {
+    pub opens: u64,
+    pub refused: [u64; 8],
+    pub updates: u64,
+    pub renders: u64,
+    pub silent: u64,
+    pub sounding: u64,
+    pub nans: u64,
+    pub rounds: u64,
+    /// Empty updates that are refused; `reached` counts those that succeed.
+    pub empty_refused: u64,
+    pub reached: Reached,
+}
+
+/// An open on both sides: what it begins, or nothing where it is refused.
+fn open(o: &Open, t: &mut Tally) -> Result<Option<(Slices, Oracle)>, String> {
+    t.opens += 1;
+    let lengths = oracle::session::lengths(&o.parameters);
+    let n = lengths.unwrap_or_default();
+    let (number, [words, longs, floats, contexts, history]) = (lengths.err().unwrap_or(0), n);
+    let answer = port::lengths(&o.parameters);
+    if answer != (Lengths { number, words, longs, floats, contexts, history }) {
+        return Err(format!("lengths {answer:?}, not {lengths:?}"));
+    }
+    let given: [usize; 5] = std::array::from_fn(|k| (n[k] as i64 + o.off[k]).max(0) as usize);
+    // What the slices held before is of no account.
+    let mut s = Slices {
+        words: vec![0xa5a5_a5a5; given[0]],
+        longs: vec![0xa5a5_a5a5_a5a5; given[1]],
+        floats: vec![0.25; given[2]],
+        contexts: vec![0xa5a5; given[3]],
+        history: vec![0.25; given[4]],
+    };
+    let before = s.clone();
+    let number = port::open(&o.parameters, &mut s);
+    match Oracle::open(&o.parameters, given) {
+        Err(refusal) => {
+            t.refused[refusal as usize] += 1;
+            if number != refusal || !unchanged(&s, &before) {
+                return Err(format!("open {number}, not {refusal}, or it changes the state"));
+            }
+            Ok(None)
+        }
+        Ok(session) => {
+            if number != 0 || seen(&s) != seen(&session.slices()) {
+                return Err(format!("open {number}: {}", places(&s, &session.slices())));
+            }
+            Ok(Some((s, session)))
+        }
+    }
+}
+
+/// A call on both sides.
+fn call(c: &Call, s: &mut Slices, oracle: &mut Oracle, judge: Judge, t: &mut Tally) -> Result<(), String> {
+    let before = s.clone();
+    let room = |needed: usize, spare: i64| (needed as i64 + spare).max(0) as usize;
+    let (refusal, kept) = match c {
+        Call::Update { expected, input, spare } => {
+            t.updates += 1;
+            let room = room(oracle.reply_length(*expected), *spare);
+            let mut out = vec![0xa5; room];
+            let answer = port::update(s, *expected, input, &mut out);
+            let result = if input.is_empty() && judge == Judge::Rust {
+                oracle.question_6(*expected, room).map(|()| empty::reply(&before, *expected))
+            } else {
+                oracle.update(*expected, input, room)
+            };
+            let reply = result.as_deref().unwrap_or_default();
+            if result.is_ok() && reply.len() != oracle.reply_length(*expected) {
+                return Err(format!("the oracle gives {} bytes", reply.len()));
+            }
+            let should = Update { number: result.as_ref().err().copied().unwrap_or(0), size: reply.len() };
+            let (given, beyond) = out.split_at(reply.len().min(room));
+            if answer != should || place(given, reply).is_some() || beyond.iter().any(|&b| b != 0xa5) {
+                return Err(format!("update {answer:?}, not {should:?}; reply at {:?}", place(given, reply)));
+            }
+            if should.number == 0 {
+                t.reached.count(&before, input);
+            }
+            t.empty_refused += u64::from(should.number != 0 && input.is_empty());
+            (should.number, input.is_empty())
+        }
+        Call::Render { base, memory, spare } => {
+            t.renders += 1;
+            let room = room(2 * oracle.samples(), *spare);
+            let mut out = vec![0.25; room];
+            let answer = port::render(s, *base, memory, &mut out);
+            let result = oracle.render(*base, memory, room);
+            let (frames, rounds) = result.as_ref().map_or((&[][..], 0), |(f, n)| (&f[..], *n));
+            if result.is_ok() && frames.len() != 2 * oracle.samples() {
+                return Err(format!("the oracle gives {} floats", frames.len()));
+            }
+            let should = Render { number: result.as_ref().err().copied().unwrap_or(0), rounds: rounds as u32 };
+            let (given, beyond) = out.split_at(frames.len().min(room));
+            if answer != should || all(given) != all(frames) || beyond.iter().any(|&x| x != 0.25) {
+                return Err(format!("render {answer:?}, not {should:?}; frames at {:?}", place(&all(given), &all(frames))));
+            }
+            let sounding = frames.chunks(2).filter(|f| f[0] != 0.0 || f[1] != 0.0).count() as u64;
+            t.sounding += sounding;
+            t.silent += frames.len() as u64 / 2 - sounding;
+            t.nans += frames.iter().filter(|x| x.is_nan()).count() as u64;
+            t.rounds += rounds;
+            (should.number, false)
+        }
+    };
+    t.refused[refusal as usize] += 1;
+    if (refusal != 0 || kept) && !unchanged(s, &before) {
+        return Err(format!("answered {refusal}, and the state changes: {}", places(s, &before)));
+    }
+    if seen(s) != seen(&oracle.slices()) {
+        return Err(places(s, &oracle.slices()));
+    }
+    Ok(())
+}
+
+/// A whole session on both sides, or the call at which they differ and how.
+pub fn run(session: &Session, judge: Judge, t: &mut Tally) -> Result<(), (usize, String)> {
+    let mut state = None;
+    for o in &session.opens {
+        state = open(o, t).map_err(|e| (0, e))?;
+        if state.is_some() {
+            break;
+        }
+    }
+    let (mut slices, mut oracle) = state.expect("the last open succeeds");
+    for (k, c) in session.calls.iter().enumerate() {
+        call(c, &mut slices, &mut oracle, judge, t).map_err(|e| (k, e))?;
+    }
+    Ok(())
+}

@@ -1,0 +1,95 @@
+//! Holds the port to the oracle that follows document 02's rules: an empty update leaves the state alone and tells the positions. Nothing is
+//! left out.
+//!
+//! `rules [SEED [COUNT]]` compares COUNT sessions of each mode, with empty updates and inputs of 1 to 63 bytes among their calls; then
+//! 5 × COUNT such updates from any whole state, since no session has a fresh voice with a position. It fails where a case of the rule was
+//! never reached.
+//! `rules program SEED COUNT FOLDER [empty]` writes inputs of the session program, every third of them damaged, with what it must print for
+//! each; with `empty`, empty updates are among the calls, and it fails if there are none.
+mod both;
+mod desk;
+mod empty;
+mod generate;
+mod inputs;
+mod modes;
+mod port;
+mod programs;
+mod random;
+mod refusals;
+mod sessions;
+mod title;
+use both::Judge;
+use empty::Reached;
+use generate::state;
+use modes::{MODES, asking, short};
+use oracle::renderer::Probe;
+use port::{place, places, seen, unchanged};
+use random::Random;
+
+/// Updates from any whole state, three of four empty and one of 1 to 63 bytes: what they reached, and how many differ.
+fn single(r: &mut Random, count: u64) -> (Reached, u64) {
+    let (mut reached, mut differ) = (Reached::default(), 0);
+    for k in 0..count {
+        let before = state(r, 2000);
+        let input = if k % 4 == 3 { short(r) } else { vec![] };
+        let expected = r.below(0x4000) as u32;
+        let oracle = Probe::restore(&before);
+        let reply = oracle.update(&input, expected as usize);
+        let (mut after, mut out) = (before.clone(), vec![0xa5; reply.len() + r.below(20) as usize]);
+        let answer = port::update(&mut after, expected, &input, &mut out);
+        let (given, beyond) = out.split_at(reply.len());
+        let replied = (answer.number, answer.size) == (0, reply.len()) && given == reply && beyond.iter().all(|&b| b == 0xa5);
+        let kept = !input.is_empty() || unchanged(&after, &before);
+        if !replied || !kept || seen(&after) != seen(&oracle.slices()) {
+            differ += 1;
+            if differ < 4 {
+                println!("differs: update {k} of {} bytes: answer {answer:?}, reply at {:?}", input.len(), place(given, &reply));
+                println!("  {}", places(&after, &oracle.slices()));
+            }
+        }
+        reached.count(&before, &input);
+    }
+    (reached, differ)
+}
+
+fn main() {
+    let args: Vec<String> = std::env::args().skip(1).collect();
+    let number = |k: usize, d: u64| args.get(k).map_or(d, |a| a.parse().expect("a number"));
+    if args.first().is_some_and(|a| a == "program") {
+        let empty = args.get(4).is_some_and(|a| a == "empty");
+        let found = programs::write(number(1, 1), number(2, 1000), &args[3], empty);
+        println!("{} inputs, {found} empty updates in those that are not damaged", number(2, 1000));
+        std::process::exit(i32::from(empty && found == 0));
+    }
+    let (seed, count) = (number(0, 1), number(1, 2_000));
+    let total = sessions::compare(seed, count, &MODES, Judge::Rules, asking);
+    let in_sessions = oracle::take_empty();
+    let (reached, differ) = single(&mut Random(seed), 5 * count);
+    let in_single = oracle::take_empty();
+    let s = &total.reached;
+    println!("sessions: {s}; {} more refused by 6; {} inputs of 1 to 63 bytes with a voice in use", total.empty_refused, s.short);
+    println!("any whole state: {reached}; {} inputs of 1 to 63 bytes with a voice in use", reached.short);
+    println!("the oracle's rule: run and telling a position that isn't 0 in sessions {in_sessions:?}, from any whole state {in_single:?}");
+    let counts = [
+        ("an empty update in a session", s.empty.min(in_sessions[0])),
+        ("a position that isn't 0 in a session", s.told.min(in_sessions[1])),
+        ("a fresh voice in a session", s.fresh),
+        ("an unused voice with a position in a session", s.unused_moved),
+        ("an input of 1 to 63 bytes in a session", s.short),
+        ("an empty update refused by 6", total.empty_refused),
+        ("an empty update", reached.empty.min(in_single[0])),
+        ("a position that isn't 0", reached.told.min(in_single[1])),
+        ("a fresh voice with a position", reached.fresh_moved),
+        ("an unused voice with a position", reached.unused_moved),
+        ("an input of 1 to 63 bytes", reached.short),
+    ];
+    let never: Vec<&str> = counts.iter().filter(|c| c.1 == 0).map(|c| c.0).collect();
+    for what in &never {
+        println!("never reached: {what}");
+    }
+    let differ = total.differ + differ;
+    println!("{} compared, {differ} differ", total.compared + 5 * count);
+    if differ != 0 || !never.is_empty() {
+        std::process::exit(1);
+    }
+}
