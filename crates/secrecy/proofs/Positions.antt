@@ -51,25 +51,29 @@ module _ (st : State) (expected : ℕ) (reply : List ℕ) where
   unfolding updateCall outcomeBy
   asks-nothing = nothing-by (wholeOf st) (leb (replyLength (paramsIn st) expected) (length reply))
 
-  -- ---- where it isn't refused, voice k's 16 bytes of the reply are its status, of the state as it stands
+  -- ---- where it isn't refused, it is told the reply of the state as it stands
 
+  told-by : (whole room : Bool) → leb (replyLength (paramsIn st) expected) (length reply) ≡ room → outcomeBy whole room .number ≡ 0
+      → take (outcomeBy whole room .size) (outcomeBy whole room .reply) ≡ updateReply (paramsIn st) expected [] st
+  unfolding outcomeBy updateDone updated
+  told-by true true h e = reply-front (paramsIn st) expected [] st reply (leb-true _ _ h)
+  told-by true false h e = absurd (omega arith)
+  told-by false room h e = absurd (omega arith)
+
+  pub reply-told : said st (asked expected reply) .number ≡ 0
+      → said st (asked expected reply) .reply ≡ updateReply (paramsIn st) expected [] st
+  unfolding updateCall outcomeBy
+  reply-told e = told-by (wholeOf st) (leb (replyLength (paramsIn st) expected) (length reply)) refl e
+
+  -- voice k's 16 bytes of it
   module _ (k : ℕ) (inside : k < paramsIn st .voices) where
     abbrev position : List ℕ
     position = statusAt (voiceWordsIn (paramsIn st) (st .words)) (voiceLongsIn (paramsIn st) (st .longs)) k
 
-    told-by : (whole room : Bool) → leb (replyLength (paramsIn st) expected) (length reply) ≡ room → outcomeBy whole room .number ≡ 0
-        → statusIn (paramsIn st) k (take (outcomeBy whole room .size) (outcomeBy whole room .reply)) ≡ position
-    unfolding outcomeBy updateDone updated updateReply
-    told-by true true h e =
-        ap (statusIn (paramsIn st) k) (reply-front (paramsIn st) expected [] st reply (leb-true _ _ h))
-        ∙ reply-status (paramsIn st) expected [] _ _ _ k inside
-    told-by true false h e = absurd (omega arith)
-    told-by false room h e = absurd (omega arith)
-
     pub positions-told : said st (asked expected reply) .number ≡ 0
         → statusIn (paramsIn st) k (said st (asked expected reply) .reply) ≡ position
-    unfolding updateCall outcomeBy
-    positions-told e = told-by (wholeOf st) (leb (replyLength (paramsIn st) expected) (length reply)) refl e
+    unfolding updateReply
+    positions-told e = ap (statusIn (paramsIn st) k) (reply-told e) ∙ reply-status (paramsIn st) expected [] _ _ _ k inside
 
 -- ---- it has no record, so that it routes no voice and declares no byte
 
