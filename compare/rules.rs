@@ -1,5 +1,5 @@
-//! Holds the port to the oracle that follows document 02's rules: an empty update leaves the state alone and tells the positions. Nothing is
-//! left out.
+//! Holds the port to the oracle that follows document 02's rules: an empty update leaves the state alone and tells the positions. Nothing
+//! is left out.
 //!
 //! `rules [SEED [COUNT]]` compares COUNT sessions of each mode, with empty updates and inputs of 1 to 63 bytes among their calls; then
 //! 5 × COUNT such updates from any whole state, since no session has a fresh voice with a position. It fails where a case of the rule was

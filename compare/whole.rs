@@ -2,8 +2,8 @@
 //! update and a render through the C interface must answer 0 or 4 accordingly, and by 4 change nothing.
 //!
 //! `whole [SEED [COUNT]]` tries COUNT states: each clause broken alone and with each other one, and at the limits of what it allows, in the
-//! first, a middle and the last row; with memory, reply and frames that questions 5, 6 and 7 refuse, and without. It fails where a clause,
-//! a row or a pair was never hit, for which a COUNT below 200,000 may be too small.
+//! first, a middle and the last row; with memory, reply and frames that questions 5, 6 and 7 refuse, and without; updates with an empty
+//! input among them. It fails where a clause, a row, a pair or an answer was never hit, for which a COUNT below 200,000 may be too small.
 //! `whole wrong` tries the list with one wrong entry, for many of them: each must be noticed.
 mod clauses;
 #[allow(dead_code)]
@@ -81,6 +81,7 @@ impl Run<'_> {
         let u = update(&mut self.after, expected, input, &mut reply);
         let right = (u.number, u.size) == (number, 0) && self.kept(s) && reply.iter().all(|&b| b == 0xa5);
         self.tally.answers[number as usize] += 1;
+        self.tally.empty[number as usize] += u64::from(input.is_empty());
         self.count(right, &format!("an update that should answer {number} answers {}", u.number), s, found);
     }
 
@@ -94,13 +95,16 @@ impl Run<'_> {
         self.count(right, &format!("a render that should answer {number} answers {}", a.number), s, found);
     }
 
-    /// An update that succeeds leaves a whole state, and what lies behind the reply. The reply's length is the answer.
+    /// An update that succeeds leaves a whole state, and what lies behind the reply; an empty one leaves the state as it was. The reply's
+    /// length is the answer.
     fn yes_update(&mut self, s: &State, expected: u32, input: &[u8], room: usize) -> usize {
         let mut reply = vec![0xa5; room];
         self.after.clone_from(s);
         let u = update(&mut self.after, expected, input, &mut reply);
-        let right = u.number == 0 && u.size <= room && reply[u.size..].iter().all(|&b| b == 0xa5) && broken(self.list, &self.after) == 0;
+        let whole = broken(self.list, &self.after) == 0 && (!input.is_empty() || self.kept(s));
+        let right = u.number == 0 && u.size <= room && reply[u.size..].iter().all(|&b| b == 0xa5) && whole;
         self.tally.answers[0] += 1;
+        self.tally.empty[0] += u64::from(input.is_empty());
         self.count(right, &format!("an update of a whole state answers {}", u.number), s, 0);
         u.size
     }
