@@ -1,21 +1,21 @@
 -- An update whose input has no byte asks for the positions: it leaves the state alone, tells each voice's position as the state has it, and
 -- routes and declares nothing; two sessions that differ in sound hear the same answer. Assumes nothing.
-use mathlib.Core.Path.{_≡_, refl, ap, sym, subst, _∙_}
+use mathlib.Core.Path.{_≡_, refl, ap, _∙_}
 use mathlib.Core.Bool.{Bool, true, false, cond, _&&_}
 use mathlib.Core.List.{List, [], map}
-use Prim.Native.Nat.{ℕ, _+_, _*_, _<_}
+use Prim.Native.Nat.{ℕ, zero, suc, _+_, _<_}
 use native.Mathlib.Omega.{arith}
-use borrow.Author.Tests.{leb-true, lt-leb}
+use borrow.Author.Tests.{leb-true}
 use lib.Dec.{leb}
-use lib.ListN.{length, take}
+use lib.ListN.{length, take, drop}
 use Rattle.fields.specs.Fields.{fieldAt, flagAt, sectionOf}
 use Rattle.params.specs.declared.params.Params.{Params}
-use Rattle.params.specs.Sections.{sectionsOf}
 use Rattle.params.specs.Sizes.{revisionOf, replyLength}
 use Rattle.state.specs.State.{State, paramsIn, voiceWordsIn, voiceLongsIn}
 use Rattle.whole.specs.Whole.{wholeOf}
 use Rattle.voice.specs.Voice.{hasDestination}
 use Rattle.voice_records.specs.Record.{recordUsed, splitterOf}
+use Rattle.voices.specs.Voices.{recordAt}
 use Rattle.reply_sections.specs.Voices.{statusAt}
 use Rattle.reply.specs.Reply.{statusIn}
 use Rattle.updates.specs.Update.{updated, updateReply}
@@ -24,15 +24,14 @@ use Rattle.calls.specs.Calls.{UpdateOutcome, openCall, updateLeft, updateDone, 
 use Rattle.secrecy.specs.Sessions.{Call, update, shape, updates, after, said, stateAt}
 use Rattle.secrecy.specs.Declared.{recordSpans, inputSpans}
 use Rattle.secrecy.specs.Demand.{begun}
-use Rattle.secrecy.specs.Both.{Both}
 use Rattle.secrecy.specs.Updates.{reply-front}
 use Rattle.secrecy.specs.Lists.{None, unasked, both-at}
-use Rattle.secrecy.specs.Opens.{opens, opened-both}
+use Rattle.secrecy.specs.Opens.{begun-both}
 use Rattle.secrecy.proofs.Status.{reply-status}
 
 -- such an update
-abbrev pub asked : ℕ → List ℕ → Call
-asked expected reply = update expected [] reply
+abbrev pub emptyUpdate : ℕ → List ℕ → Call
+emptyUpdate expected reply = update expected [] reply
 
 module _ (st : State) (expected : ℕ) (reply : List ℕ) where
   -- by the answers to questions 4 and 6
@@ -47,7 +46,7 @@ module _ (st : State) (expected : ℕ) (reply : List ℕ) where
   nothing-by true false = refl
   nothing-by false room = refl
 
-  pub asks-nothing : after st (asked expected reply) ≡ st
+  pub asks-nothing : after st (emptyUpdate expected reply) ≡ st
   unfolding updateCall outcomeBy
   asks-nothing = nothing-by (wholeOf st) (leb (replyLength (paramsIn st) expected) (length reply))
 
@@ -60,26 +59,39 @@ module _ (st : State) (expected : ℕ) (reply : List ℕ) where
   told-by true false h e = absurd (omega arith)
   told-by false room h e = absurd (omega arith)
 
-  pub reply-told : said st (asked expected reply) .number ≡ 0
-      → said st (asked expected reply) .reply ≡ updateReply (paramsIn st) expected [] st
+  pub reply-told : said st (emptyUpdate expected reply) .number ≡ 0
+      → said st (emptyUpdate expected reply) .reply ≡ updateReply (paramsIn st) expected [] st
   unfolding updateCall outcomeBy
   reply-told e = told-by (wholeOf st) (leb (replyLength (paramsIn st) expected) (length reply)) refl e
 
   -- voice k's 16 bytes of it
   module _ (k : ℕ) (inside : k < paramsIn st .voices) where
-    abbrev position : List ℕ
-    position = statusAt (voiceWordsIn (paramsIn st) (st .words)) (voiceLongsIn (paramsIn st) (st .longs)) k
+    abbrev status : List ℕ
+    status = statusAt (voiceWordsIn (paramsIn st) (st .words)) (voiceLongsIn (paramsIn st) (st .longs)) k
 
-    pub positions-told : said st (asked expected reply) .number ≡ 0
-        → statusIn (paramsIn st) k (said st (asked expected reply) .reply) ≡ position
+    pub positions-told : said st (emptyUpdate expected reply) .number ≡ 0
+        → statusIn (paramsIn st) k (said st (emptyUpdate expected reply) .reply) ≡ status
     unfolding updateReply
     positions-told e = ap (statusIn (paramsIn st) k) (reply-told e) ∙ reply-status (paramsIn st) expected [] _ _ _ k inside
 
 -- ---- it has no record, so that it routes no voice and declares no byte
 
+taken-of-none : (at n : ℕ) → take {A = ℕ} n (drop at []) ≡ []
+taken-of-none zero zero = refl
+taken-of-none zero (suc n) = refl
+taken-of-none (suc at) zero = refl
+taken-of-none (suc at) (suc n) = refl
+
+section-by : (b : Bool) (at n : ℕ) → cond b (take {A = ℕ} n (drop at [])) [] ≡ []
+section-by true at n = taken-of-none at n
+section-by false at n = refl
+
+section-none : (at n : ℕ) → sectionOf [] at n ≡ []
+unfolding sectionOf
+section-none at n = section-by (leb (at + n) 0) at n
+
 none-recorded : (k : ℕ) → voiceRecord [] k ≡ []
-unfolding sectionsOf sectionOf fieldAt
-none-recorded k = simp (lt-leb (k * 0x170 + 0x170) 0 (omega arith))
+none-recorded k = ap (λ (d : List ℕ). recordAt d k) (section-none _ _) ∙ section-none _ _
 
 pub routes-none : (p : Params) (k : ℕ) → routes p [] k ≡ false
 unfolding routes flagAt fieldAt
@@ -94,12 +106,8 @@ declares-none k = ap (λ (e : List ℕ). cond (recordUsed e) (recordSpans e) [])
 
 module _ (p : Params) (a b : State) (oa : openCall p a .number ≡ 0) (ob : openCall p b .number ≡ 0)
     (cs cs′ : List Call) (e : map shape cs ≡ map shape cs′) where
-  both-begun : Both p None (begun p a) (begun p b)
-  both-begun =
-      subst (λ (s : State). Both p None s (begun p b)) (sym (opens p a oa .0))
-      (subst (Both p None _) (sym (opens p b ob .0)) (opened-both p None (opens p a oa .1)))
-
   pub positions-same : (r expected : ℕ) (reply reply′ : List ℕ) → length reply ≡ length reply′
-      → said (stateAt (begun p a) cs r) (asked expected reply) ≡ said (stateAt (begun p b) cs′ r) (asked expected reply′)
+      → said (stateAt (begun p a) cs r) (emptyUpdate expected reply) ≡ said (stateAt (begun p b) cs′ r) (emptyUpdate expected reply′)
   positions-same r expected reply reply′ l =
-      unasked (both-at both-begun cs cs′ e r) (asked expected reply) (asked expected reply′) (λ i. updates expected [] (l i)) .same
+      let both = both-at (begun-both p None a b oa ob) cs cs′ e r in
+      unasked both (emptyUpdate expected reply) (emptyUpdate expected reply′) (λ i. updates expected [] (l i)) .same

@@ -65,7 +65,8 @@ unfolding coefficientsOf contextOf runFrom tookOf valueOf nibbleOf sizeOf countF
     someChannel voiceWhole voiceWordsWhole voicesWhole inputSpans reads factorsOf frames inputOf leftOf rightOf sampleOf side sinkOf toUnit wordsOfContext
     destinationStep destinationsFrom newlyOf storedFloats storedWords strideFrom strideOf usedOf volumeOf withFloats withWords countOf entryOf nextOf
     splitterStep splittersFrom withList recordsFrom recordsOf roundedUp splittersOf steps routes afterDesk afterVoices changed listsSize
-    mixesAt voiceRowsIn withLists withMixes withResources withSinks withVoices setPlay flushSlot silentSound offsetsValid parseOf recorded renderVoice headOf topOf longsOfWave waveOf wordsOfWave
+    mixesAt voiceRowsIn withLists withMixes withResources withSinks withVoices setPlay flushSlot silentSound offsetsValid parseOf recorded
+    renderVoice headOf topOf longsOfWave waveOf wordsOfWave
     bySplitter destinationSent entrySent listSent mixSends rampedRow sendsOf sent splitterSends taken toMix voicesOf lengthsRight rowsWhole wholeBy div isNan le mul
     ofBits ofInt sub toUnsigned
 computing = tt

@@ -115,20 +115,24 @@ deskInput =
 abbrev pub revision : ℕ → ℕ
 revision n = 0x30564552 + n * 2 ^ 24
 
--- parameters for so many voices
-abbrev pub paramsFor : ℕ → ℕ → Params
-paramsFor voices word = record {
+-- parameters for so many voices and effects
+abbrev pub paramsWith : ℕ → ℕ → ℕ → Params
+paramsWith voices effects word = record {
   «sample_rate» = 48000;
   «sample_count» = 2;
   «mix_buffers» = 1;
   «sub_mixes» = 0;
   voices = voices;
   sinks = 1;
-  effects = 0;
+  effects = effects;
   splitters = 0;
   «splitter_destinations» = 0;
   revision = word;
 }
+
+-- without effects
+abbrev pub paramsFor : ℕ → ℕ → Params
+paramsFor voices word = paramsWith voices 0 word
 
 -- the slices that a session is opened on, whatever they held
 unfoldable pub slicesFor : ℕ → State

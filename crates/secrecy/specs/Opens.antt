@@ -16,6 +16,7 @@ use Rattle.opened.specs.Laws.{opened-params, opened-idle}
 use Rattle.opened.specs.Whole.{opened-whole}
 use Rattle.alike.specs.Alike.{live, Named}
 use Rattle.calls.specs.Calls.{OpenOutcome, openLeft, openCall}
+use Rattle.secrecy.specs.Demand.{begun}
 use Rattle.secrecy.specs.Both.{Both}
 
 -- by the answers to questions 1, 2 and 3
@@ -42,6 +43,12 @@ opened-both p P a = record {
   params = opened-params p;
   alike = record { words = refl; longs = refl; floats = refl; contexts = λ k l q. refl; history = λ k l q. refl };
 }
+
+pub begun-both : (p : Params) (P : ℕ → Type 0) (a b : State) → openCall p a .number ≡ 0 → openCall p b .number ≡ 0
+    → Both p P (begun p a) (begun p b)
+begun-both p P a b oa ob =
+    subst (λ (s : State). Both p P s (begun p b)) (sym (opens p a oa .0))
+    (subst (Both p P (opened p)) (sym (opens p b ob .0)) (opened-both p P (opens p a oa .1)))
 
 pub opened-silent : (p : Params) (P : ℕ → Type 0) → Named p P (λ k. voiceIn k (opened p))
 unfolding live defaultVoice

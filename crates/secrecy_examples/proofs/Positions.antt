@@ -4,22 +4,21 @@ use mathlib.Core.Bool.{true, false}
 use mathlib.Core.List.{List, [], _∷_, _++_}
 use Prim.Native.Nat.{ℕ}
 use lib.ListN.{replicate}
-use Rattle.params.specs.declared.params.Params.{Params}
 use Rattle.state.specs.State.{State}
 use Rattle.calls.specs.Calls.{openCall}
 use Rattle.secrecy.specs.Sessions.{Call, update, Said, said, stateAt, saidAll, framesAt}
 use Rattle.secrecy.specs.Declared.{declared, routed}
 use Rattle.secrecy.specs.Demand.{begun}
 use Rattle.secrecy.specs.Computing.{computing}
-use Rattle.secrecy.specs.Inputs.{byte, word, long, laidFrom, revision, params, slicesFor, slices, start, startFor, desk, updatingAll}
-use Rattle.secrecy.specs.Inputs.{rendering, pcmVoice, pcm, frame, silence}
-use Rattle.secrecy.proofs.Positions.{asked, positions-same}
+use Rattle.secrecy.specs.Inputs.{byte, word, long, laidFrom, revision, params, paramsWith, slicesFor, slices, start, startFor}
+use Rattle.secrecy.specs.Inputs.{desk, updatingAll, rendering, pcmVoice, pcm, frame, silence}
+use Rattle.secrecy.proofs.Positions.{emptyUpdate, positions-same}
 use Rattle.secrecy_examples.specs.Answers.{told, rendered}
 use Rattle.secrecy_examples.specs.Declared.{pcmSpans}
 
 -- the positions asked for, with more room than the reply takes
 abbrev pub asking : Call
-asking = asked 0 (replicate 0x300 0)
+asking = emptyUpdate 0 (replicate 0x300 0)
 
 -- an update of 63 zeros: too short for a header
 abbrev pub short : Call
@@ -61,14 +60,14 @@ pub frames : (framesAt st one 5 ≡ frame 1 ++ frame 3)
 unfolding computing startFor desk updatingAll rendering pcm
 frames = (refl, refl, refl)
 
--- asked once more after the first render, both sessions answer the same, by the theorem and computed
-opens : openCall (params (revision 2)) slices .number ≡ 0
+opened-on : openCall (params (revision 2)) slices .number ≡ 0
 unfolding computing slicesFor
-opens = refl
+opened-on = refl
 
+-- asked once more after the first render, both sessions answer the same, by the theorem and computed
 pub same : said (stateAt st one 4) asking ≡ said (stateAt st other 4) asking
 unfolding startFor rendering pcm
-same = positions-same (params (revision 2)) slices slices opens opens one other refl 4 0 _ _ refl
+same = positions-same (params (revision 2)) slices slices opened-on opened-on one other refl 4 0 _ _ refl
 
 pub same-is : said (stateAt st one 4) asking ≡ told 2 0
 unfolding computing startFor desk updatingAll rendering pcm laidFrom
@@ -85,24 +84,11 @@ routes-nothing = (refl, refl)
 
 -- ---- a whole reply, of revision 5, with an effect: pools 0, the effect 4, one render elapsed
 
-abbrev pub effectParams : Params
-effectParams = record {
-  «sample_rate» = 48000;
-  «sample_count» = 2;
-  «mix_buffers» = 1;
-  «sub_mixes» = 0;
-  voices = 1;
-  sinks = 1;
-  effects = 1;
-  splitters = 0;
-  «splitter_destinations» = 0;
-  revision = revision 5;
-}
+-- the state after a record and a render
+abbrev pub withEffect : State
+withEffect = stateAt (begun (paramsWith 1 1 (revision 5)) slices) (pcmVoice 0 ∷ rendering (replicate 8 0) ∷ []) 2
 
-abbrev pub withEffect : List Call
-withEffect = pcmVoice 0 ∷ rendering (replicate 8 0) ∷ asked 0x1a0 (replicate 0x1a0 7) ∷ []
-
-pub whole-reply : said (stateAt (begun effectParams slices) withEffect 2) (asked 0x1a0 (replicate 0x1a0 7)) ≡ record {
+pub whole-reply : said withEffect (emptyUpdate 0x1a0 (replicate 0x1a0 7)) ≡ record {
   number = 0;
   size = 0x1a0;
   reply = laidFrom 0 0x1a0

@@ -1,5 +1,5 @@
--- A voice can be heard after an update with at least one byte where the input routes it, and nowhere else; after one without, where it could
--- be heard before. Assumes nothing.
+-- A voice can be heard after an update with at least one byte where the input routes it, and nowhere else; after one without, where it
+-- could be heard before. Assumes nothing.
 use mathlib.Core.Path.{_≡_, refl, ap, _∙_, subst}
 use mathlib.Core.Bool.{Bool, true, false, _&&_}
 use mathlib.Core.List.{List, [], _∷_}
