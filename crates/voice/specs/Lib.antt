@@ -7,3 +7,4 @@ pub mod Prepare
 pub mod Laws
 pub mod Slots
 pub mod Prepares
+pub mod Flush

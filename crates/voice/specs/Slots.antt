@@ -44,12 +44,11 @@ pub record Flushing (count base : ℕ) (q : Queue) (turn slot : ℕ) (w : Queue)
   pub below : turn ≤ count
   pub left : flushed (count - turn) slot w ≡ flushed count base q
   pub inside : slot < 4
-  pub index : w .index < 4
 
-pub flush-begin : (count base : ℕ) (q : Queue) → base < 4 → q .index < 4 → Flushing count base q 0 base q
-flush-begin count base q hb hi =
+pub flush-begin : (count base : ℕ) (q : Queue) → base < 4 → Flushing count base q 0 base q
+flush-begin count base q hb =
     let e : count - 0 ≡ count = omega arith in
-    record { below = omega arith; left = ap (λ (n : ℕ). flushed n base q) e; inside = hb; index = hi }
+    record { below = omega arith; left = ap (λ (n : ℕ). flushed n base q) e; inside = hb }
 
 flushed-more : (n m slot : ℕ) (w : Queue) → n ≡ suc m → flushed n slot w ≡ flushed m (nextSlot slot) (flushSlot w slot)
 unfolding flushed
@@ -61,7 +60,6 @@ flush-more count base q turn slot {w} h r ew es = record {
   below = omega arith;
   left = (λ i. flushed (count - (turn + 1)) (es i) (ew i)) ∙ sym (flushed-more (count - turn) (count - (turn + 1)) slot w (omega arith)) ∙ r .left;
   inside = rw es (omega arith);
-  index = rw (ew, flush-index) (omega arith);
 }
 
 flushed-none : (n slot : ℕ) (w : Queue) → n ≡ 0 → flushed n slot w ≡ w

@@ -28,12 +28,11 @@ pub struct Spot {
     pub loops: u32,
 }
 
-// The next of the four slots.
+// The next of the four slots; 4 divides 2^32, so that it may go round there.
 pub fn next_slot(slot: u32) -> u32
-    requires { ⌜ slot < 4 ⌝ }
     ensures { λ r. ⌜ r ≡ nextSlot slot ⌝ }
 {
-    (slot + 1) % 4
+    std::num::wrapping_add_u32(slot, 1) % 4
 }
 
 // The spot of a queue.

@@ -1,6 +1,6 @@
 // What a render does with a voice before it fetches: flushes, takes in pending buffers, stops.
 ghost use mathlib.Core.Path.{_≡_};
-ghost use Prim.Native.Nat.{_<_};
+ghost use Prim.Native.Nat.{_<_, min};
 ghost use Rattle.voice.specs.Prepare.{flushSlot, flushed, promoted, anyOf, stopped, prepareOf};
 ghost use Rattle.voice.specs.Slots.{promoteSlot, stopSlot};
 use crate::Play;
@@ -15,10 +15,15 @@ pub struct Prepared {
     pub reset: bool,
 }
 
+// What a flush walk leaves, and the turns that it took.
+pub struct Flushed {
+    pub queue: Queue,
+    pub turns: u32,
+}
+
 // One turn of the flush walk: the slot's buffer is dropped and counts as consumed.
 fn flush_slot(mut q: Queue, slot: u32) -> Queue
     requires { ⌜ slot < 4 ⌝ }
-    requires { ⌜ q .index < 4 ⌝ }
     ensures { λ r. ⌜ r ≡ flushSlot q slot ⌝ }
 {
     let at = slot as usize;
@@ -31,21 +36,40 @@ fn flush_slot(mut q: Queue, slot: u32) -> Queue
     q
 }
 
-// The flush walk: as many turns as the flush count, from the base slot on.
-fn flush(q: Queue, base: u32, count: u32) -> Queue
+// The flush walk turn by turn, from the base slot on.
+fn walk(q: Queue, base: u32, turns: u32) -> Queue
     requires { ⌜ base < 4 ⌝ }
-    requires { ⌜ q .index < 4 ⌝ }
-    ensures { λ r. ⌜ r ≡ flushed count base q ⌝ }
+    ensures { λ r. ⌜ r ≡ flushed turns base q ⌝ }
 {
     let mut w = q;
     let mut slot = base;
     let mut turn: u32 = 0;
-    while turn < count {
+    while turn < turns {
         w = flush_slot(w, slot);
         slot = next_slot(slot);
         turn += 1;
     }
     w
+}
+
+// The flush walk of as many turns as the flush count. After four turns every slot is empty: the rest of the advance is worked out.
+pub fn flush(q: Queue, base: u32, count: u32) -> Flushed
+    requires { ⌜ base < 4 ⌝ }
+    ensures { λ r. ⌜ r .queue ≡ flushed count base q ⌝ }
+    ensures { λ r. ⌜ r .turns ≡ min 4 count ⌝ }
+{
+    if count < 5 {
+        let queue = walk(q, base, count);
+        return Flushed {
+            queue,
+            turns: count,
+        };
+    }
+    let mut queue = walk(q, base, 4);
+    let rest = count - 4;
+    queue.index = std::num::wrapping_add_u32(queue.index, rest) % 4;
+    queue.consumed = std::num::wrapping_add_u32(queue.consumed, rest);
+    Flushed { queue, turns: 4 }
 }
 
 // A slot's pending buffer becomes valid.
@@ -133,7 +157,8 @@ pub fn prepare(v: Voice) -> Prepared
 {
     let base = v.base_index;
     let count = v.flush;
-    let q = flush(crate::queue_of(v), base, count);
+    let f = flush(crate::queue_of(v), base, count);
+    let q = f.queue;
     let mut w = v;
     w.flush = 0;
     let play = v.play;

@@ -1,4 +1,7 @@
 // A fetch: the position's part by a voice's rows, and the sound of a channel.
+use crate::VOICE_FLOATS;
+use crate::VOICE_LONGS;
+use crate::VOICE_WORDS;
 use crate::VoiceContext;
 use plan::Source;
 use voice::Voice;
@@ -66,13 +69,13 @@ pub extern "C" fn probe_plan(
     count: u32,
     buffers_v2: u32,
 ) -> u32 {
-    if words.len() < 58 {
+    if words.len() < VOICE_WORDS {
         return 255;
     }
-    if longs.len() < 14 {
+    if longs.len() < VOICE_LONGS {
         return 255;
     }
-    if floats.len() < 4 {
+    if floats.len() < VOICE_FLOATS {
         return 255;
     }
     let v = voice_rows::load_voice(words, longs, floats);
@@ -96,13 +99,13 @@ pub extern "C" fn probe_fetch_row(
     c: u32,
     out: &mut [f32],
 ) -> VoiceContext {
-    if words.len() < 58 {
+    if words.len() < VOICE_WORDS {
         return nothing();
     }
-    if longs.len() < 14 {
+    if longs.len() < VOICE_LONGS {
         return nothing();
     }
-    if floats.len() < 4 {
+    if floats.len() < VOICE_FLOATS {
         return nothing();
     }
     if contexts.len() < 3 {

@@ -4,6 +4,13 @@ mod fetches;
 
 use voice::WaveBuffer;
 
+// The lengths of a voice's rows.
+pub const VOICE_WORDS: usize = 58;
+
+pub const VOICE_LONGS: usize = 14;
+
+pub const VOICE_FLOATS: usize = 4;
+
 #[repr(C)]
 pub struct VoiceContext {
     pub pred_scale: u16,
@@ -13,13 +20,13 @@ pub struct VoiceContext {
 
 // The position's part of a prepare: whether the voice is ready, 2 for no voice, or 3 where the sound is to be reset.
 fn prepare_rows(words: &mut [u32], longs: &mut [u64], floats: &mut [f32]) -> u32 {
-    if words.len() < 58 {
+    if words.len() < VOICE_WORDS {
         return 2;
     }
-    if longs.len() < 14 {
+    if longs.len() < VOICE_LONGS {
         return 2;
     }
-    if floats.len() < 4 {
+    if floats.len() < VOICE_FLOATS {
         return 2;
     }
     let v = voice_rows::load_voice(words, longs, floats);
@@ -62,6 +69,52 @@ pub extern "C" fn probe_prepare(
         return 0;
     }
     code
+}
+
+// A voice after its flush walk, and the turns; 5 where it has no such base slot.
+struct Walked {
+    voice: voice::Voice,
+    turns: u32,
+}
+
+fn flush_voice(v: voice::Voice, count: u32) -> Walked {
+    if v.base_index > 3 {
+        return Walked { voice: v, turns: 5 };
+    }
+    let f = voice::flush(voice::queue_of(v), v.base_index, count);
+    let voice = voice::with_queue(v, f.queue);
+    Walked {
+        voice,
+        turns: f.turns,
+    }
+}
+
+// The flush walk of the voice in these rows, of so many turns from its base slot on, its queue stored. The turns that it took, or 5 where the rows
+// are no voice's.
+#[no_mangle]
+pub extern "C" fn probe_flush(
+    words: &mut [u32],
+    longs: &mut [u64],
+    floats: &mut [f32],
+    count: u32,
+) -> u32 {
+    if words.len() < VOICE_WORDS {
+        return 5;
+    }
+    if longs.len() < VOICE_LONGS {
+        return 5;
+    }
+    if floats.len() < VOICE_FLOATS {
+        return 5;
+    }
+    let v = voice_rows::load_voice(words, longs, floats);
+    let f = flush_voice(v, count);
+    if f.turns == 5 {
+        return 5;
+    }
+    let w = f.voice;
+    voice_rows::store_voice(w, words, 0, longs, 0, floats, 0);
+    f.turns
 }
 
 #[no_mangle]

@@ -1,48 +1,48 @@
--- `voice::flush` meets its contract. The loop's invariant: the turns that are left, done, are the whole walk. Assumes nothing.
-use Prim.Native.Nat.{_-_}
+-- `voice::flush` meets its contract. Assumes nothing.
+use Prim.Native.Nat.{_≤_}
+use mathlib.Core.Path.{_≡_, sym, _∙_}
 use native.Mathlib.Omega.{arith}
-use Rattle.voice.specs.Slots.{Flushing, flush-begin, flush-more, flush-end}
+use lib.ListN.{length-map}
+use Rattle.voice.specs.Slots.{is-four}
+use Rattle.voice.proofs.LongFlush.{flush-rest}
+use borrow.Author.Needs.{needs}
 use Rattle.voice.proofs.ready.flush.Statement.{statement}
 use Rattle.voice.proofs.ready.flush.Tie as tie
 
-abbrev Inv-loop : tie.InvT-loop
-Inv-loop base count w₀ slot₀ turn₀ w slot turn = Flushing count base w₀ turn slot w
+walk-requires : tie.Need-walk-requires
+walk-requires c κs = search needs
 
-abbrev μ-loop : tie.MeasureT-loop
-μ-loop base count w₀ slot₀ turn₀ w slot turn = count - turn
+returns : tie.Need-returns
+returns c = (c .walk .ensures, omega arith)
 
-loop-holds : tie.Need-loop-holds Inv-loop μ-loop
-loop-holds c = flush-begin _ _ _ (c .pre .0) (c .pre .1)
+walk-requires-2 : tie.Need-walk-requires-2
+walk-requires-2 c κs = search needs
 
-flush-slot-requires : tie.Need-flush-slot-requires Inv-loop μ-loop
-flush-slot-requires c κs = (c .before .loop .inv .inside, c .before .loop .inv .index)
+sub-rest : tie.Need-sub-rest
+sub-rest c = search needs
 
-next-slot-requires : tie.Need-next-slot-requires Inv-loop μ-loop
-next-slot-requires c κs = c .before .before .loop .inv .inside
+wrapping-add-u32-requires : tie.Need-wrapping-add-u32-requires
+wrapping-add-u32-requires c κs = search needs
 
-add-turn : tie.Need-add-turn Inv-loop μ-loop
-add-turn c = omega arith
+wrapping-add-u32-requires-2 : tie.Need-wrapping-add-u32-requires-2
+wrapping-add-u32-requires-2 c κs = search needs
 
-loop-less : tie.Need-loop-less Inv-loop μ-loop
-loop-less c = omega arith
-
-loop-again : tie.Need-loop-again Inv-loop μ-loop
-loop-again c =
-    flush-more _ _ _ _ _ (c .before .before .loop-test .taken) (c .before .before .before .loop .inv) (c .before .flush-slot .ensures) (c .next-slot .ensures)
-
-returns : tie.Need-returns Inv-loop μ-loop
-returns c = flush-end _ _ _ _ _ (c .loop-test .left) (c .before .loop .inv)
+returns-2 : tie.Need-returns-2
+returns-2 c =
+    let s = c .before .before .before .before in
+    let q = s .args .q in
+    let bs = is-four (q .buffers) (sym (length-map (q .buffers) _) ∙ s .good .0 .1 .1 .0 .1 .0 .1) in
+    let vs = is-four (q .valid) (sym (length-map (q .valid) _) ∙ s .good .0 .1 .1 .1 .0 .1 .0 .1) in
+    (flush-rest q bs vs (s .args .count) (s .args .base) (s .pre) (omega arith) (c .before .before .walk2 .ensures) (c .before .wrapping-add-u32 .ensures) (c .wrapping-add-u322 .ensures), omega arith)
 
 pub flush-spec : {M : Type 1} → statement M
 flush-spec =
     tie.close
     (tie.spec
-    Inv-loop
-    μ-loop
-    loop-holds
-    flush-slot-requires
-    next-slot-requires
-    add-turn
-    loop-less
-    loop-again
-    returns)
+    walk-requires
+    returns
+    walk-requires-2
+    sub-rest
+    wrapping-add-u32-requires
+    wrapping-add-u32-requires-2
+    returns-2)

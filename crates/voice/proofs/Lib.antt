@@ -1,0 +1,2 @@
+pub mod LongFlush
+pub mod FlushTable
