@@ -65,7 +65,6 @@ pub const SPLITTER: usize = 3;
 pub const DESTINATION: usize = 4;
 
 pub const IN_USE: usize = 0;
-pub const FLUSH: usize = 8;
 const MIX_USED: usize = 0;
 const MIX_BUFFERS: usize = 1;
 

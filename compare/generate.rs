@@ -4,6 +4,13 @@ use oracle::mixer::probe::{FLOATS, LONGS, Rows, Slices, WORDS};
 
 pub const BASE: u64 = 0x10000;
 
+/// Places among a voice's words.
+pub const PLAY: usize = 2;
+pub const BASE_INDEX: usize = 7;
+pub const FLUSH: usize = 8;
+pub const INDEX: usize = 22;
+pub const CONSUMED: usize = 23;
+
 /// A counter: mostly small, sometimes near its limit.
 pub fn counter(r: &mut Random) -> u64 {
     match r.below(4) {
@@ -35,13 +42,13 @@ pub fn rows(r: &mut Random, len: u64, flush: u32) -> Rows {
     let mut longs = vec![0u64; LONGS];
     words[0] = flag(r);
     words[1] = flag(r);
-    words[2] = r.below(4) as u32;
+    words[PLAY] = r.below(4) as u32;
     words[3] = [2, 5, 6, 6, 2, 0, 9][r.below(7) as usize];
     words[4] = r.next() as u32;
     words[5] = 1 + r.below(6) as u32;
     words[6] = r.below(5) as u32;
-    words[7] = r.below(4) as u32;
-    words[8] = flush;
+    words[BASE_INDEX] = r.below(4) as u32;
+    words[FLUSH] = flush;
     words[9] = r.below(1 << 16) as u32;
     words[10] = r.next() as u32;
     words[11] = r.next() as u32;
@@ -51,8 +58,8 @@ pub fn rows(r: &mut Random, len: u64, flush: u32) -> Rows {
     for k in 18..22 {
         words[k] = u32::from(r.below(4) != 0);
     }
-    words[22] = r.below(4) as u32;
-    words[23] = counter(r) as u32;
+    words[INDEX] = r.below(4) as u32;
+    words[CONSUMED] = counter(r) as u32;
     words[24] = if r.below(3) == 0 { r.below(20) as u32 } else if r.below(8) == 0 { r.next() as u32 } else { 0 };
     words[25] = counter(r) as u32;
     longs[0] = address(r, len);

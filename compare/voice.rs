@@ -1,12 +1,14 @@
-//! Holds `prepare` and `fetch` to kirikae's mixer.rs, by a voice's rows: every field, the rows for the resampler and the rounds.
+//! Holds `flush`, `prepare` and `fetch` to kirikae's mixer.rs, by a voice's rows: every field, the rows for the resampler and the rounds;
+//! and the turns of a flush to document 02, the lesser of four and the flush count.
 //!
-//! `voice [SEED [COUNT]]` compares COUNT random voices and memories, and the counters at their limits among them.
-//! `voice limits` compares one prepare with the largest flush count, which walks 2^32 - 1 turns on both sides (minutes).
+//! `voice [SEED [COUNT]]` compares flush counts of 0 to 40 with every base slot and index, then COUNT random voices and memories, with the
+//! counters at their limits and flush counts of about a million among them. It fails where a number of turns or a play mark was not reached.
+//! `voice limits` compares the largest flush count, of which the Rust walks all 2^32 - 1 turns, for every base slot and every play mark.
 #[allow(dead_code)]
 mod generate;
 mod probed;
 mod random;
-use generate::{BASE, rows};
+use generate::{BASE, BASE_INDEX, CONSUMED, FLUSH, INDEX, PLAY, rows};
 use oracle::mixer::probe::{FLOATS, LONGS, Probe, Rows, WORDS};
 use oracle::{Memory, take_rounds};
 use probed::ProbeContext;
@@ -16,6 +18,9 @@ unsafe extern "C" {
     fn probe_prepare(
         words: *mut u32, words_len: usize, longs: *mut u64, longs_len: usize, floats: *mut f32, floats_len: usize, contexts: *mut u16,
         contexts_len: usize, history: *mut f32, history_len: usize,
+    ) -> u32;
+    fn probe_flush(
+        words: *mut u32, words_len: usize, longs: *mut u64, longs_len: usize, floats: *mut f32, floats_len: usize, count: u32,
     ) -> u32;
     fn probe_plan(
         words: *mut u32, words_len: usize, longs: *mut u64, longs_len: usize, floats: *mut f32, floats_len: usize, base: u64, size: u64,
@@ -49,35 +54,124 @@ fn prepares(before: &Rows) -> [(bool, Rows); 2] {
     [(code != 0, port), (ready, probe.rows())]
 }
 
-fn main() {
-    let args: Vec<String> = std::env::args().skip(1).collect();
-    if args.first().is_some_and(|a| a == "limits") {
-        let [port, oracle] = prepares(&rows(&mut Random(7), 400, u32::MAX));
-        let same = port.0 == oracle.0 && seen(&port.1) == seen(&oracle.1);
-        println!("flush {}: {}", u32::MAX, if same { "1 compared, 0 differ" } else { "1 compared, 1 differ" });
-        std::process::exit(i32::from(!same));
-    }
-    let number = |k: usize, d| args.get(k).map_or(d, |a| a.parse().expect("a number"));
-    let (r, count) = (&mut Random(number(0, 1)), number(1, 200_000));
-    let (mut compared, mut differ, mut rounds, mut most, mut ready) = (0u64, 0u64, 0u64, 0u64, 0u64);
-    let mut tell = |what: &str, same: bool, before: &Rows| {
-        compared += 1;
+/// The play marks, and the one whose prepare does nothing but flush.
+const MARKS: u32 = 4;
+const PAUSED: u32 = 3;
+
+/// A flush on both sides: its turns, and the voice after it. The Rust's is all that its prepare of a paused voice does.
+fn flushes(before: &Rows, count: u32) -> [(u32, Rows); 2] {
+    let mut port = before.clone();
+    (port.words[PLAY], port.words[FLUSH]) = (PAUSED, count);
+    let mut probe = Probe::new(&port);
+    probe.prepare();
+    // A prepare has done its flush; the port's flush leaves the count to its caller.
+    port.words[FLUSH] = 0;
+    let p = &mut port;
+    let turns = unsafe { probe_flush(p.words.as_mut_ptr(), WORDS, p.longs.as_mut_ptr(), LONGS, p.floats.as_mut_ptr(), FLOATS, count) };
+    [(turns, port), (count.min(4), probe.rows())]
+}
+
+/// What was compared, and what of it differed; how many flushes took so many turns, and how many prepares with more than four to do had
+/// each play mark; and how many went round at consumed's limit after the first four turns.
+#[derive(Default)]
+struct Tally {
+    compared: u64,
+    differ: u64,
+    turns: [u64; 5],
+    long: [u64; MARKS as usize],
+    round: u64,
+}
+
+impl Tally {
+    fn tell(&mut self, what: &str, same: bool, before: &Rows) {
+        self.compared += 1;
         if !same {
-            differ += 1;
-            if differ < 6 {
+            self.differ += 1;
+            if self.differ < 6 {
                 println!("differs: {what}: {before:?}");
             }
         }
-    };
+    }
+
+    fn flush(&mut self, before: &Rows, count: u32) {
+        let [port, oracle] = flushes(before, count);
+        self.tell(&format!("flush {count}"), port.0 == oracle.0 && seen(&port.1) == seen(&oracle.1), before);
+        self.turns[oracle.0 as usize] += 1;
+        let consumed = before.words[CONSUMED];
+        self.round += u64::from(consumed.checked_add(4).is_some() && consumed.checked_add(count).is_none());
+    }
+
+    /// Whether the voice is ready.
+    fn prepare(&mut self, before: &Rows) -> bool {
+        let [port, oracle] = prepares(before);
+        self.tell("prepare", port.0 == oracle.0 && seen(&port.1) == seen(&oracle.1), before);
+        self.long[before.words[PLAY] as usize] += u64::from(before.words[FLUSH] > 4);
+        oracle.0
+    }
+
+    /// Prints what was compared and ends; with 0 only if nothing differed and flushes of `least` turns and more, and all else, were reached.
+    fn end(&self, least: usize) -> ! {
+        println!("flushes of 0 to 4 turns {:?}, {} round consumed's limit in the rest; long ones by play mark {:?}", self.turns, self.round, self.long);
+        let reached = self.round > 0 && self.turns[least..].iter().chain(&self.long).all(|&n| n > 0);
+        if !reached {
+            println!("not all of it was reached");
+        }
+        println!("{} compared, {} differ", self.compared, self.differ);
+        std::process::exit(i32::from(self.differ != 0 || !reached));
+    }
+}
+
+/// Counts of 0 to 40 with every base slot and index, and with an index that no voice has, which a flush doesn't ask about.
+fn short_counts(r: &mut Random, tally: &mut Tally) {
+    for count in 0..=40 {
+        for (base, index) in (0..4).flat_map(|base| [0, 1, 2, 3, 4, u32::MAX].map(|index| (base, index))) {
+            let mut before = rows(r, 400, count);
+            (before.words[BASE_INDEX], before.words[INDEX]) = (base, index);
+            for consumed in [7, u32::MAX - 20] {
+                before.words[CONSUMED] = consumed;
+                tally.flush(&before, count);
+                if index < 4 {
+                    tally.prepare(&before);
+                }
+            }
+        }
+    }
+}
+
+/// The largest count: every base slot with consumed at 0, at 7 and at its limit, then every play mark.
+fn limits(r: &mut Random, tally: &mut Tally) {
+    for (base, consumed) in (0..4).flat_map(|base| [0, 7, u32::MAX].map(|consumed| (base, consumed))) {
+        let mut before = rows(r, 400, u32::MAX);
+        (before.words[BASE_INDEX], before.words[CONSUMED]) = (base, consumed);
+        tally.flush(&before, u32::MAX);
+        println!("flush {}, base slot {base}, consumed {consumed}: {} compared, {} differ", u32::MAX, tally.compared, tally.differ);
+    }
+    for play in 0..MARKS {
+        let mut before = rows(r, 400, u32::MAX);
+        before.words[PLAY] = play;
+        tally.prepare(&before);
+        println!("prepare after {}, play mark {play}: {} compared, {} differ", u32::MAX, tally.compared, tally.differ);
+    }
+}
+
+fn main() {
+    let args: Vec<String> = std::env::args().skip(1).collect();
+    let tally = &mut Tally::default();
+    if args.first().is_some_and(|a| a == "limits") {
+        limits(&mut Random(7), tally);
+        tally.end(4);
+    }
+    let number = |k: usize, d| args.get(k).map_or(d, |a| a.parse().expect("a number"));
+    let (r, count) = (&mut Random(number(0, 1)), number(1, 200_000));
+    let (mut rounds, mut most, mut ready) = (0u64, 0u64, 0u64);
+    short_counts(r, tally);
     for k in 0..count {
         let size = [0, 6, 40, 400, 2000][r.below(5) as usize];
         let memory = r.bytes(size);
-        let flush = if k % 5000 == 0 { 1_000_000 + r.below(4) as u32 } else { r.below(7) as u32 };
+        let flush = if k % 5000 == 0 { 1_000_000 - r.below(4) as u32 } else { r.below(7) as u32 };
         let before = rows(r, memory.len() as u64, flush);
-
-        let [port, oracle] = prepares(&before);
-        ready += u64::from(oracle.0);
-        tell("prepare", port.0 == oracle.0 && seen(&port.1) == seen(&oracle.1), &before);
+        tally.flush(&before, flush);
+        ready += u64::from(tally.prepare(&before));
 
         let needed = [0, 1, 5, 14, 60, 240, 4097][r.below(7) as usize];
         let v2 = r.below(2) == 0;
@@ -108,7 +202,7 @@ fn main() {
             )
         };
         let rows_same = (0..channels).all(|c| src[c].iter().map(|&x| bits(x)).eq(out[c * width..(c + 1) * width].iter().map(|&x| bits(x))));
-        tell("fetch", seen(&port) == seen(&probe.rows()) && u64::from(port_rounds) == spent && rows_same, &before);
+        tally.tell("fetch", seen(&port) == seen(&probe.rows()) && u64::from(port_rounds) == spent && rows_same, &before);
         rounds += spent;
         most += u64::from(spent == 64);
 
@@ -120,11 +214,8 @@ fn main() {
         }
         let format = before.words[3];
         let valid = unsafe { probe_offsets_valid(record.as_ptr(), record.len(), format) } != 0;
-        tell("offsets_valid", valid == oracle::mixer::probe::offsets_valid(&record, format as u8), &before);
+        tally.tell("offsets_valid", valid == oracle::mixer::probe::offsets_valid(&record, format as u8), &before);
     }
-    println!("prepare, fetch and offsets_valid of {count} voices ({ready} ready, {rounds} rounds, {most} fetches of 64)");
-    println!("{compared} compared, {differ} differ");
-    if differ != 0 {
-        std::process::exit(1);
-    }
+    println!("flush, prepare, fetch and offsets_valid of {count} voices ({ready} ready, {rounds} rounds, {most} fetches of 64)");
+    tally.end(0);
 }

@@ -14,7 +14,7 @@ mod sys;
 mod whole_states;
 mod whole_tally;
 mod wrong_clauses;
-use clauses::{Clause, FLUSH, IN_USE, PARAMETERS, SAMPLES, State, VOICE, broken, place, right_lengths, rows};
+use clauses::{Clause, PARAMETERS, SAMPLES, State, broken, right_lengths};
 use random::Random;
 use std::time::Instant;
 use sys::{Render, Update, jeqlluna_lengths, jeqlluna_open, jeqlluna_render, jeqlluna_update};
@@ -202,19 +202,6 @@ fn far_base(r: &mut Random, length: usize) -> u64 {
     [END - length as u64 + 1, u64::MAX, END + 1 + r.below(END - 1), u64::MAX - length as u64][r.below(4) as usize]
 }
 
-/// Flush counts that a render walks in no time: a voice in use drops as many buffers as its count says, one by one.
-fn short_flushes(r: &mut Random, s: &mut State) {
-    for row in 0..rows(&s.words, VOICE) {
-        let (used, flush) = (place(&s.words, VOICE, row, IN_USE), place(&s.words, VOICE, row, FLUSH));
-        if flush >= s.words.len() {
-            break;
-        }
-        if s.words[used] != 0 {
-            s.words[flush] = r.below(1000) as u32;
-        }
-    }
-}
-
 /// Tries so many states by a list; with `first` up to the first difference.
 fn run(list: &[Clause], seed: u64, count: u64, first: bool) -> Tally {
     let r = &mut Random(seed);
@@ -235,11 +222,8 @@ fn run(list: &[Clause], seed: u64, count: u64, first: bool) -> Tally {
             1..5 => Size::Any,
             _ => Size::Small,
         };
-        let (mut s, hits) = make(list, r, &aims, size);
+        let (s, hits) = make(list, r, &aims, size);
         let found = broken(list, &s);
-        if (found == 0 || first) && s.words.len() >= PARAMETERS {
-            short_flushes(r, &mut s);
-        }
         run.tally.state(found, &hits, matches!(size, Size::Largest));
         if found == 0 { run.taken(r, &s) } else { run.refused(r, &s, found) }
         if turn % 32 == 5 {

@@ -8,7 +8,6 @@ use lib.ListN.{replicate}
 use Rattle.voice.specs.declared.wave.WaveBuffer.{WaveBuffer}
 use Rattle.voice.specs.declared.queue.Queue.{Queue}
 use Rattle.voice.specs.Prepare.{flushSlot, flushed}
-use Rattle.voice.specs.Slots.{four}
 use Rattle.voice.specs.Flush.{emptied}
 use Rattle.voice.proofs.LongFlush.{flushed-long}
 
@@ -60,9 +59,7 @@ pub five : Row 5 4 (replicate 4 false) 3 12
 unfolding flushed flushSlot
 five = (refl, refl)
 
--- by the law, since nobody walks so far
+-- by the law, and not by a walk
 pub largest : Row (2 ^ 32 - 1) 4 (replicate 4 false) 1 6
 unfolding emptied
-largest =
-    let b = buffer true in
-    (refl, flushed-long (queue (replicate 4 true) 2 7) (four b b b b) (four true true true true) (2 ^ 32 - 1) 1 (omega arith) (omega arith))
+largest = (refl, flushed-long (queue (replicate 4 true) 2 7) refl refl (2 ^ 32 - 1) 1 (omega arith) (omega arith))

@@ -3,13 +3,14 @@ use Prim.Native.Nat.{ℕ, zero, suc, _+_, _-_, _%_, _^_, _≤_, _<_}
 use mathlib.Core.Bool.{Bool, false}
 use mathlib.Core.List.{List, [], _∷_, map}
 use mathlib.Core.Path.{_≡_, refl, ap, sym, _∙_}
+use native.Mathlib.Nat.{add-assoc, mod-add-mod}
 use native.Mathlib.Omega.{arith}
-use lib.ListN.{getD, set, replicate}
+use lib.ListN.{length, getD, set, replicate}
 use lib.Seq.{set-getD}
 use Rattle.voice.specs.declared.queue.Queue.{Queue}
 use Rattle.voice.specs.Queue.{noBuffer, nextSlot}
 use Rattle.voice.specs.Prepare.{settled, flushSlot, flushed}
-use Rattle.voice.specs.Slots.{Four, four}
+use Rattle.voice.specs.Slots.{Four, four, is-four}
 use Rattle.voice.specs.Flush.{emptied}
 
 -- ---- four slots, one a turn
@@ -47,15 +48,13 @@ none-valid (four a b c d) = refl
 
 -- ---- numbers that go round
 
+-- a number advanced by a, then by b
+advanced : (m x a b : ℕ) {y : ℕ} → y ≡ (x + a) % m → (y + b) % m ≡ (x + (a + b)) % m
+advanced m x a b e = ap (λ (k : ℕ). (k + b) % m) e ∙ mod-add-mod (x + a) m b ∙ ap (λ (k : ℕ). k % m) (add-assoc x a b)
+
 -- 4 divides 2^32
-round-4 : (y i : ℕ) → i ≡ y % 2 ^ 32 → i % 4 ≡ y % 4
-round-4 y i e = rw e (omega arith)
-
-index-rest : (x m w : ℕ) → w ≡ (x + 4) % 4 → (w + m) % 4 ≡ (x + (4 + m)) % 4
-index-rest x m w e = rw e (omega arith)
-
-consumed-rest : (x m w : ℕ) → w ≡ (x + 4) % 2 ^ 32 → (w + m) % 2 ^ 32 ≡ (x + (4 + m)) % 2 ^ 32
-consumed-rest x m w e = rw e (omega arith)
+round-4 : (y : ℕ) {i : ℕ} → i ≡ y % 2 ^ 32 → i % 4 ≡ y % 4
+round-4 y e = rw e (omega arith)
 
 -- ---- the walk
 
@@ -86,15 +85,16 @@ module _ (q : Queue) where
       ∙ emptied-turns m (suc n) (nextSlot slot)
       ∙ ap (λ (k : ℕ). emptied k q) e
 
-  module _ (bs : Four (q .buffers)) (vs : Four (q .valid)) where
+  module _ (lb : length (q .buffers) ≡ 4) (lv : length (q .valid) ≡ 4) where
     -- the first four turns
     flushed-four : (slot : ℕ) → slot < 4 → flushed 4 slot q ≡ emptied 4 q
     unfolding flushed flushSlot emptied
     flushed-four slot h =
+        let vs = is-four (q .valid) lv in
         let i : ((((q .index + 1) % 4 + 1) % 4 + 1) % 4 + 1) % 4 ≡ (q .index + 4) % 4 = omega arith in
         let c : ((((q .consumed + 1) % 2 ^ 32 + 1) % 2 ^ 32 + 1) % 2 ^ 32 + 1) % 2 ^ 32 ≡ (q .consumed + 4) % 2 ^ 32 = omega arith in
         λ j. record {
-          buffers = done-four settled noBuffer bs slot h j;
+          buffers = done-four settled noBuffer (is-four (q .buffers) lb) slot h j;
           valid = (done-four invalid false vs slot h ∙ none-valid vs) j;
           index = i j;
           consumed = c j;
@@ -103,9 +103,9 @@ module _ (q : Queue) where
           loops = q .loops;
         }
 
-    flushed-more : (m slot : ℕ) → slot < 4 → flushed (suc (suc (suc (suc m)))) slot q ≡ emptied (4 + m) q
+    four-and : (m slot : ℕ) → slot < 4 → flushed (suc (suc (suc (suc m)))) slot q ≡ emptied (4 + m) q
     unfolding flushed
-    flushed-more m slot h =
+    four-and m slot h =
         let after = nextSlot (nextSlot (nextSlot (nextSlot slot))) in
         ap (flushed m after) (flushed-four slot h) ∙ emptied-turns m 4 after
 
@@ -114,7 +114,7 @@ module _ (q : Queue) where
     flushed-long n slot h l =
         let e : n ≡ suc (suc (suc (suc (n - 4)))) = omega arith in
         let f : 4 + (n - 4) ≡ n = omega arith in
-        ap (λ (k : ℕ). flushed k slot q) e ∙ flushed-more (n - 4) slot h ∙ ap (λ (k : ℕ). emptied k q) f
+        ap (λ (k : ℕ). flushed k slot q) e ∙ four-and (n - 4) slot h ∙ ap (λ (k : ℕ). emptied k q) f
 
     -- four turns, and the rest of the advance worked out
     pub flush-rest : (count slot : ℕ) → slot < 4 → 4 ≤ count → {w : Queue} {i n : ℕ} → w ≡ flushed 4 slot q
@@ -131,24 +131,23 @@ module _ (q : Queue) where
     unfolding emptied
     flush-rest count slot h l {w} {i} {n} ew ei en =
         let e : w ≡ emptied 4 q = ew ∙ flushed-four slot h in
-        let wi : w .index ≡ (q .index + 4) % 4 = ap (λ (u : Queue). u .index) e in
-        let wn : w .consumed ≡ (q .consumed + 4) % 2 ^ 32 = ap (λ (u : Queue). u .consumed) e in
-        let f : 4 + (count - 4) ≡ count = omega arith in
-        let i-is =
-        round-4 (w .index + (count - 4)) i ei
-        ∙ index-rest (q .index) (count - 4) (w .index) wi
-        ∙ ap (λ (k : ℕ). (q .index + k) % 4) f
+        let rest = count - 4 in
+        let whole : 4 + rest ≡ count = omega arith in
+        let index : i % 4 ≡ (q .index + count) % 4 =
+        round-4 (w .index + rest) ei
+        ∙ advanced 4 (q .index) 4 rest (ap (λ (u : Queue). u .index) e)
+        ∙ ap (λ (k : ℕ). (q .index + k) % 4) whole
         in
-        let n-is =
+        let consumed : n ≡ (q .consumed + count) % 2 ^ 32 =
         en
-        ∙ consumed-rest (q .consumed) (count - 4) (w .consumed) wn
-        ∙ ap (λ (k : ℕ). (q .consumed + k) % 2 ^ 32) f
+        ∙ advanced (2 ^ 32) (q .consumed) 4 rest (ap (λ (u : Queue). u .consumed) e)
+        ∙ ap (λ (k : ℕ). (q .consumed + k) % 2 ^ 32) whole
         in
         (λ j. record {
           buffers = e j .buffers;
           valid = e j .valid;
-          index = i-is j;
-          consumed = n-is j;
+          index = index j;
+          consumed = consumed j;
           offset = e j .offset;
           played = e j .played;
           loops = e j .loops;

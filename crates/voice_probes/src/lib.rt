@@ -1,5 +1,5 @@
-// Exports of a voice by its rows for the driver compare/voice.rs, which holds prepare and fetch to the oracle. No part of the interface for titles.
-// Where the rows are not a voice's, the answer is 2 and nothing changes.
+// Exports of a voice by its rows for the driver compare/voice.rs, which holds flush, prepare and fetch to the oracle. No part of the
+// interface for titles. Where the rows are not a voice's, the answer says so and nothing changes.
 mod fetches;
 
 use voice::WaveBuffer;
@@ -77,6 +77,7 @@ struct Walked {
     turns: u32,
 }
 
+// Its queue walked by so many turns.
 fn flush_voice(v: voice::Voice, count: u32) -> Walked {
     if v.base_index > 3 {
         return Walked { voice: v, turns: 5 };
@@ -89,8 +90,8 @@ fn flush_voice(v: voice::Voice, count: u32) -> Walked {
     }
 }
 
-// The flush walk of the voice in these rows, of so many turns from its base slot on, its queue stored. The turns that it took, or 5 where the rows
-// are no voice's.
+// The flush walk of the voice in these rows, of so many turns from its base slot on, its queue stored. The turns that it took, or 5 where
+// the rows are no voice's.
 #[no_mangle]
 pub extern "C" fn probe_flush(
     words: &mut [u32],

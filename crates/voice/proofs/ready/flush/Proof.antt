@@ -1,9 +1,7 @@
--- `voice::flush` meets its contract. Assumes nothing.
-use Prim.Native.Nat.{_≤_}
+-- `voice::flush` meets its contract: below five turns it is the walk, else the walk of four and the rest worked out. Assumes nothing.
 use mathlib.Core.Path.{_≡_, sym, _∙_}
 use native.Mathlib.Omega.{arith}
 use lib.ListN.{length-map}
-use Rattle.voice.specs.Slots.{is-four}
 use Rattle.voice.proofs.LongFlush.{flush-rest}
 use borrow.Author.Needs.{needs}
 use Rattle.voice.proofs.ready.flush.Statement.{statement}
@@ -31,9 +29,12 @@ returns-2 : tie.Need-returns-2
 returns-2 c =
     let s = c .before .before .before .before in
     let q = s .args .q in
-    let bs = is-four (q .buffers) (sym (length-map (q .buffers) _) ∙ s .good .0 .1 .1 .0 .1 .0 .1) in
-    let vs = is-four (q .valid) (sym (length-map (q .valid) _) ∙ s .good .0 .1 .1 .1 .0 .1 .0 .1) in
-    (flush-rest q bs vs (s .args .count) (s .args .base) (s .pre) (omega arith) (c .before .before .walk2 .ensures) (c .before .wrapping-add-u32 .ensures) (c .wrapping-add-u322 .ensures), omega arith)
+    let lb = sym (length-map (q .buffers) _) ∙ s .good .0 .1 .1 .0 .1 .0 .1 in
+    let lv = sym (length-map (q .valid) _) ∙ s .good .0 .1 .1 .1 .0 .1 .0 .1 in
+    let queue = c .before .before .walk2 .ensures in
+    let index = c .before .wrapping-add-u32 .ensures in
+    let consumed = c .wrapping-add-u322 .ensures in
+    (flush-rest q lb lv (s .args .count) (s .args .base) (s .pre) (omega arith) queue index consumed, omega arith)
 
 pub flush-spec : {M : Type 1} → statement M
 flush-spec =

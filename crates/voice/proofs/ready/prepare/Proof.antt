@@ -35,8 +35,9 @@ enum-told-2 c = search needs
 
 stop-requires : tie.Need-stop-requires
 stop-requires c κs =
+    let walked = flushed-now (c .before .before .before) in
     let s = c .before .before .before .before .before in
-    subst (λ (q : Queue). q .index < 4) (sym (flushed-now (c .before .before .before))) (flushed-index _ _ (queueOf (s .args .v)) (s .pre .1))
+    subst (λ (q : Queue). q .index < 4) (sym walked) (flushed-index _ _ (queueOf (s .args .v)) (s .pre .1))
 
 with-stopped-requires : tie.Need-with-stopped-requires
 with-stopped-requires c κs = search needs
@@ -55,18 +56,22 @@ with-queue-requires-3 c κs = search needs
 
 returns : tie.Need-returns
 returns c =
-    prepared-started _ (c .before .before .before .enum-told .given .1) (flushed-now (c .before .before .before .before .before .before)) (c .before .before .promote .ensures)
-    (c .before .with-queue .ensures) (c .any-valid .ensures)
+    let walked = flushed-now (c .before .before .before .before .before .before) in
+    let started = c .before .before .before .enum-told .given .1 in
+    prepared-started _ started walked (c .before .before .promote .ensures) (c .before .with-queue .ensures) (c .any-valid .ensures)
 
 returns-2 : tie.Need-returns-2
 returns-2 c =
-    prepared-stopping _ (c .before .before .enum-told2 .given .1) (flushed-now (c .before .before .before .before .before)) (c .before .stop .ensures) (c .with-stopped .ensures)
+    let walked = flushed-now (c .before .before .before .before .before) in
+    prepared-stopping _ (c .before .before .enum-told2 .given .1) walked (c .before .stop .ensures) (c .with-stopped .ensures)
 
 returns-3 : tie.Need-returns-3
-returns-3 c = prepared-stopped _ (c .before .enum-told3 .given .1) (flushed-now (c .before .before .before .before)) (c .with-queue2 .ensures)
+returns-3 c =
+    prepared-stopped _ (c .before .enum-told3 .given .1) (flushed-now (c .before .before .before .before)) (c .with-queue2 .ensures)
 
 returns-4 : tie.Need-returns-4
-returns-4 c = prepared-paused _ (c .before .enum-told4 .given .1) (flushed-now (c .before .before .before .before)) (c .with-queue3 .ensures)
+returns-4 c =
+    prepared-paused _ (c .before .enum-told4 .given .1) (flushed-now (c .before .before .before .before)) (c .with-queue3 .ensures)
 
 pub prepare-spec : {M : Type 1} → statement M
 prepare-spec =

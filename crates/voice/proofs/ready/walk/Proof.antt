@@ -29,7 +29,8 @@ loop-less c = omega arith
 
 loop-again : tie.Need-loop-again Inv-loop μ-loop
 loop-again c =
-    flush-more _ _ _ _ _ (c .before .before .loop-test .taken) (c .before .before .before .loop .inv) (c .before .flush-slot .ensures) (c .next-slot .ensures)
+    let s = c .before .before in
+    flush-more _ _ _ _ _ (s .loop-test .taken) (s .before .loop .inv) (c .before .flush-slot .ensures) (c .next-slot .ensures)
 
 returns : tie.Need-returns Inv-loop μ-loop
 returns c = flush-end _ _ _ _ _ (c .loop-test .left) (c .before .loop .inv)
