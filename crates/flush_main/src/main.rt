@@ -19,6 +19,7 @@ fn pending_buffer() -> WaveBuffer {
     }
 }
 
+// Four such buffers, all of them valid too.
 fn queue() -> Queue {
     let b = pending_buffer();
     let buffers = [b, b, b, b];
@@ -34,6 +35,7 @@ fn queue() -> Queue {
     }
 }
 
+// A name and a number.
 fn print(name: &[u8], n: u64) {
     io::write_all(1, name);
     io::print_decimal(1, n);

@@ -2,7 +2,7 @@
 use Prim.Native.Nat.{ℕ, _-_, _^_, min}
 use mathlib.Core.Bool.{Bool, true, false}
 use mathlib.Core.List.{List, [], _∷_, map}
-use mathlib.Core.Path.{_≡_, refl, _∙_}
+use mathlib.Core.Path.{_≡_, refl}
 use native.Mathlib.Omega.{arith}
 use lib.ListN.{replicate}
 use Rattle.voice.specs.declared.wave.WaveBuffer.{WaveBuffer}
@@ -51,9 +51,9 @@ pub three : Row 3 3 (true ∷ false ∷ false ∷ false ∷ []) 1 10
 unfolding flushed flushSlot
 three = (refl, refl)
 
-pub four-turns : Row 4 4 (replicate 4 false) 2 11
+pub four : Row 4 4 (replicate 4 false) 2 11
 unfolding flushed flushSlot
-four-turns = (refl, refl)
+four = (refl, refl)
 
 pub five : Row 5 4 (replicate 4 false) 3 12
 unfolding flushed flushSlot

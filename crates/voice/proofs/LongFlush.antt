@@ -3,7 +3,7 @@ use Prim.Native.Nat.{ℕ, zero, suc, _+_, _-_, _%_, _^_, _≤_, _<_}
 use mathlib.Core.Bool.{Bool, false}
 use mathlib.Core.List.{List, [], _∷_, map}
 use mathlib.Core.Path.{_≡_, refl, ap, sym, _∙_}
-use native.Mathlib.Nat.{add-assoc, mod-add-mod}
+use native.Mathlib.Nat.{mod-add-mod}
 use native.Mathlib.Omega.{arith}
 use lib.ListN.{length, getD, set, replicate}
 use lib.Seq.{set-getD}
@@ -29,13 +29,14 @@ module _ {A : Type 0} (f : A → A) (d : A) where
   done-four (four a b c e) (suc (suc (suc zero))) h = refl
   done-four (four a b c e) (suc (suc (suc (suc k)))) h = absurd (omega arith)
 
+  -- where f done twice is f done once
   module _ (twice : (a : A) → f (f a) ≡ f a) (none : f d ≡ d) where
     done-there : (l : List A) (k : ℕ) → f (getD (map f l) k d) ≡ getD (map f l) k d
     done-there [] k = none
     done-there (a ∷ l) zero = twice a
     done-there (a ∷ l) (suc k) = done-there l k
 
-    -- a turn where every slot was reached
+    -- a turn after every slot was reached
     done-again : (l : List A) (k : ℕ) → doneAt (map f l) k ≡ map f l
     done-again l k = ap (set (map f l) k) (done-there l k) ∙ set-getD (map f l) k d
 
@@ -48,9 +49,11 @@ none-valid (four a b c d) = refl
 
 -- ---- numbers that go round
 
--- a number advanced by a, then by b
-advanced : (m x a b : ℕ) {y : ℕ} → y ≡ (x + a) % m → (y + b) % m ≡ (x + (a + b)) % m
-advanced m x a b e = ap (λ (k : ℕ). (k + b) % m) e ∙ mod-add-mod (x + a) m b ∙ ap (λ (k : ℕ). k % m) (add-assoc x a b)
+-- a number advanced by four, then by the rest of a count
+advanced : (m x count : ℕ) {y : ℕ} → 4 ≤ count → y ≡ (x + 4) % m → (y + (count - 4)) % m ≡ (x + count) % m
+advanced m x count l e =
+    let whole : x + 4 + (count - 4) ≡ x + count = omega arith in
+    ap (λ (k : ℕ). (k + (count - 4)) % m) e ∙ mod-add-mod (x + 4) m (count - 4) ∙ ap (λ (k : ℕ). k % m) whole
 
 -- 4 divides 2^32
 round-4 : (y : ℕ) {i : ℕ} → i ≡ y % 2 ^ 32 → i % 4 ≡ y % 4
@@ -131,18 +134,8 @@ module _ (q : Queue) where
     unfolding emptied
     flush-rest count slot h l {w} {i} {n} ew ei en =
         let e : w ≡ emptied 4 q = ew ∙ flushed-four slot h in
-        let rest = count - 4 in
-        let whole : 4 + rest ≡ count = omega arith in
-        let index : i % 4 ≡ (q .index + count) % 4 =
-        round-4 (w .index + rest) ei
-        ∙ advanced 4 (q .index) 4 rest (ap (λ (u : Queue). u .index) e)
-        ∙ ap (λ (k : ℕ). (q .index + k) % 4) whole
-        in
-        let consumed : n ≡ (q .consumed + count) % 2 ^ 32 =
-        en
-        ∙ advanced (2 ^ 32) (q .consumed) 4 rest (ap (λ (u : Queue). u .consumed) e)
-        ∙ ap (λ (k : ℕ). (q .consumed + k) % 2 ^ 32) whole
-        in
+        let index = round-4 (w .index + (count - 4)) ei ∙ advanced 4 (q .index) count l (ap (λ (u : Queue). u .index) e) in
+        let consumed = en ∙ advanced (2 ^ 32) (q .consumed) count l (ap (λ (u : Queue). u .consumed) e) in
         (λ j. record {
           buffers = e j .buffers;
           valid = e j .valid;

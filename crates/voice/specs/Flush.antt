@@ -6,7 +6,7 @@ use lib.ListN.{replicate}
 use Rattle.voice.specs.declared.queue.Queue.{Queue}
 use Rattle.voice.specs.Prepare.{settled}
 
--- every buffer dropped, and n of them counted as consumed
+-- every buffer dropped, index and consumed advanced by n
 unfoldable pub emptied : ℕ → Queue → Queue
 emptied n q = record {
   buffers = map settled (q .buffers);

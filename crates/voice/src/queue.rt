@@ -28,7 +28,7 @@ pub struct Spot {
     pub loops: u32,
 }
 
-// The next of the four slots; 4 divides 2^32, so that it may go round there.
+// The next of the four slots, for any word: 4 divides 2^32.
 pub fn next_slot(slot: u32) -> u32
     ensures { λ r. ⌜ r ≡ nextSlot slot ⌝ }
 {
