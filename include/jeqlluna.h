@@ -25,10 +25,10 @@
 extern "C" {
 #endif
 
-#define JEQLLUNA_VERSION "0.4.0"
+#define JEQLLUNA_VERSION "0.4.1"
 #define JEQLLUNA_VERSION_MAJOR 0
 #define JEQLLUNA_VERSION_MINOR 4
-#define JEQLLUNA_VERSION_PATCH 0
+#define JEQLLUNA_VERSION_PATCH 1
 
 /* The bytes of stack that a call takes at most; measured, and held to by bindings/stack. */
 #define JEQLLUNA_STACK 134144

@@ -37,9 +37,10 @@ fn flush_slot(mut q: Queue, slot: u32) -> Queue
 }
 
 // The flush walk turn by turn, from the base slot on.
-fn walk(q: Queue, base: u32, turns: u32) -> Queue
+fn walk(q: Queue, base: u32, turns: u32) -> Flushed
     requires { ⌜ base < 4 ⌝ }
-    ensures { λ r. ⌜ r ≡ flushed turns base q ⌝ }
+    ensures { λ r. ⌜ r .queue ≡ flushed turns base q ⌝ }
+    ensures { λ r. ⌜ r .turns ≡ turns ⌝ }
 {
     let mut w = q;
     let mut slot = base;
@@ -49,7 +50,10 @@ fn walk(q: Queue, base: u32, turns: u32) -> Queue
         slot = next_slot(slot);
         turn += 1;
     }
-    w
+    Flushed {
+        queue: w,
+        turns: turn,
+    }
 }
 
 // The flush walk of as many turns as the flush count. After four turns every slot is empty: the rest of the advance is worked out.
@@ -59,17 +63,17 @@ pub fn flush(q: Queue, base: u32, count: u32) -> Flushed
     ensures { λ r. ⌜ r .turns ≡ min 4 count ⌝ }
 {
     if count < 5 {
-        let queue = walk(q, base, count);
-        return Flushed {
-            queue,
-            turns: count,
-        };
+        return walk(q, base, count);
     }
-    let mut queue = walk(q, base, 4);
+    let f = walk(q, base, 4);
+    let mut queue = f.queue;
     let rest = count - 4;
     queue.index = std::num::wrapping_add_u32(queue.index, rest) % 4;
     queue.consumed = std::num::wrapping_add_u32(queue.consumed, rest);
-    Flushed { queue, turns: 4 }
+    Flushed {
+        queue,
+        turns: f.turns,
+    }
 }
 
 // A slot's pending buffer becomes valid.

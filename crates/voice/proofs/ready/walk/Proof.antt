@@ -33,7 +33,10 @@ loop-again c =
     flush-more _ _ _ _ _ (s .loop-test .taken) (s .before .loop .inv) (c .before .flush-slot .ensures) (c .next-slot .ensures)
 
 returns : tie.Need-returns Inv-loop μ-loop
-returns c = flush-end _ _ _ _ _ (c .loop-test .left) (c .before .loop .inv)
+returns c =
+    let inv = c .before .loop .inv in
+    let below = inv .below in
+    (flush-end _ _ _ _ _ (c .loop-test .left) inv, omega arith)
 
 pub walk-spec : {M : Type 1} → statement M
 walk-spec =
