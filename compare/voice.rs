@@ -2,8 +2,9 @@
 //! and the turns of a flush to document 02, the lesser of four and the flush count.
 //!
 //! `voice [SEED [COUNT]]` compares flush counts of 0 to 40 with every base slot and index, then COUNT random voices and memories, with the
-//! counters at their limits and flush counts of about a million among them. It fails where a number of turns or a play mark was not reached.
-//! `voice limits` compares the largest flush count, of which the Rust walks all 2^32 - 1 turns, for every base slot and every play mark.
+//! counters at their limits and flush counts of about a million among them. It fails where a number of turns or a play mark was not
+//! reached. `voice limits` compares the largest flush count, of which the Rust walks all 2^32 - 1 turns, for every base slot and every
+//! play mark (a minute and a half).
 #[allow(dead_code)]
 mod generate;
 mod probed;
@@ -71,15 +72,15 @@ fn flushes(before: &Rows, count: u32) -> [(u32, Rows); 2] {
     [(turns, port), (count.min(4), probe.rows())]
 }
 
-/// What was compared, and what of it differed; how many flushes took so many turns, and how many prepares with more than four to do had
-/// each play mark; and how many went round at consumed's limit after the first four turns.
+/// What was compared, and what of it differed; how many flushes took each number of turns; how many took consumed round its limit after
+/// the fourth turn; and how many prepares with more than four turns to do had each play mark.
 #[derive(Default)]
 struct Tally {
     compared: u64,
     differ: u64,
     turns: [u64; 5],
-    long: [u64; MARKS as usize],
     round: u64,
+    long: [u64; MARKS as usize],
 }
 
 impl Tally {
@@ -93,6 +94,7 @@ impl Tally {
         }
     }
 
+    /// Compares a flush.
     fn flush(&mut self, before: &Rows, count: u32) {
         let [port, oracle] = flushes(before, count);
         self.tell(&format!("flush {count}"), port.0 == oracle.0 && seen(&port.1) == seen(&oracle.1), before);
@@ -101,7 +103,7 @@ impl Tally {
         self.round += u64::from(consumed.checked_add(4).is_some() && consumed.checked_add(count).is_none());
     }
 
-    /// Whether the voice is ready.
+    /// Compares a prepare, and gives whether the voice is ready.
     fn prepare(&mut self, before: &Rows) -> bool {
         let [port, oracle] = prepares(before);
         self.tell("prepare", port.0 == oracle.0 && seen(&port.1) == seen(&oracle.1), before);
@@ -109,9 +111,11 @@ impl Tally {
         oracle.0
     }
 
-    /// Prints what was compared and ends; with 0 only if nothing differed and flushes of `least` turns and more, and all else, were reached.
+    /// Prints what was compared and ends; with 0 only if nothing differed, and if flushes of `least` turns and more and all else were
+    /// reached.
     fn end(&self, least: usize) -> ! {
-        println!("flushes of 0 to 4 turns {:?}, {} round consumed's limit in the rest; long ones by play mark {:?}", self.turns, self.round, self.long);
+        println!("flushes of 0 to 4 turns: {:?}; {} took consumed round its limit after the fourth", self.turns, self.round);
+        println!("prepares with more than four turns to do, by play mark: {:?}", self.long);
         let reached = self.round > 0 && self.turns[least..].iter().chain(&self.long).all(|&n| n > 0);
         if !reached {
             println!("not all of it was reached");
@@ -144,13 +148,13 @@ fn limits(r: &mut Random, tally: &mut Tally) {
         let mut before = rows(r, 400, u32::MAX);
         (before.words[BASE_INDEX], before.words[CONSUMED]) = (base, consumed);
         tally.flush(&before, u32::MAX);
-        println!("flush {}, base slot {base}, consumed {consumed}: {} compared, {} differ", u32::MAX, tally.compared, tally.differ);
+        println!("flush of {}, base slot {base}, consumed {consumed}: {} differ so far", u32::MAX, tally.differ);
     }
     for play in 0..MARKS {
         let mut before = rows(r, 400, u32::MAX);
         before.words[PLAY] = play;
         tally.prepare(&before);
-        println!("prepare after {}, play mark {play}: {} compared, {} differ", u32::MAX, tally.compared, tally.differ);
+        println!("prepare with a flush of {}, play mark {play}: {} differ so far", u32::MAX, tally.differ);
     }
 }
 
