@@ -129,6 +129,21 @@ impl Desk {
         [("the voices", self.voices_alone(memory, false)), ("the whole desk", self.whole(memory, false))].map(|(what, s)| (what, input(s)))
     }
 
+    /// An update with which the voices begin anew.
+    pub fn anew(&self, memory: usize) -> Vec<u8> {
+        input(self.voices_alone(memory, true))
+    }
+
+    /// An update with queue count 0 for each voice, and a flush of so many, which are added up until the voices go on.
+    pub fn unqueued(&self, memory: usize, flush: u8) -> Vec<u8> {
+        let mut s = self.voices_alone(memory, false);
+        for record in s.voices.chunks_mut(0x170) {
+            put_u32(record, 0x3c, 0);
+            record[0x159] = flush;
+        }
+        input(s)
+    }
+
     /// Where a reply has the voices' positions: behind the header and four pools for each voice, as there are no effects.
     pub fn told(&self) -> Range<usize> {
         let at = 0x40 + self.voices * 4 * 0x10;
@@ -166,3 +181,6 @@ pub const DESKS: [Desk; 3] = [
 
 /// Desks of which the positions are asked.
 pub const ASKED: [Desk; 2] = [Desk::title("24 voices", Play::Started), Desk { voices: 64, ..Desk::title("64 voices", Play::Started) }];
+
+/// A desk whose voices are flushed.
+pub const FLUSHED: Desk = Desk { voices: 64, ..Desk::title("64 voices, 240 samples", Play::Started) };
