@@ -1,4 +1,4 @@
-//! Large flush counts: a prepare of one voice with the largest count, and a render of 64 voices after updates that piled counts up.
+//! Flush counts: a prepare of one voice with small counts and the largest, and a render of 64 voices after updates that piled counts up.
 //! The Rust walks as many turns as the count says. Our prepare loads the voice from its rows and stores it there; the Rust's does not.
 mod desks;
 #[path = "../compare/generate.rs"]
@@ -10,7 +10,7 @@ mod port;
 #[path = "../compare/random.rs"]
 mod random;
 use desks::Desk;
-use generate::BASE;
+use generate::{BASE, CONSUMED, PLAY};
 use oracle::mixer::probe::{self, Rows, Slices};
 use oracle::renderer::Probe;
 use oracle::{Memory, take_rounds};
@@ -25,8 +25,10 @@ unsafe extern "C" {
     ) -> u32;
 }
 
-/// Flush counts of a prepare: the most turns that the proved code walks, and the largest count.
-const COUNTS: [u32; 2] = [4, u32::MAX];
+/// Flush counts of a prepare: none, the most turns that the proved code walks, and the largest count.
+const COUNTS: [u32; 3] = [0, 4, u32::MAX];
+/// The play mark of a voice that plays.
+const STARTED: u32 = 0;
 /// Copies of a voice that are prepared in a run, and runs.
 const COPIES: usize = 100;
 const RUNS: usize = 301;
@@ -99,11 +101,12 @@ fn prepared<V>(new: impl Fn() -> V, prepare: impl Fn(&mut V) -> bool) -> (f64, b
 
 /// A prepare of one voice with this flush count on both sides, which must leave the same.
 fn prepares(count: u32) {
-    let before = generate::rows(&mut Random(7), 400, count);
+    let mut before = generate::rows(&mut Random(7), 400, count);
+    before.words[PLAY] = STARTED;
     let (ours, ready, voice) = prepared(|| before.clone(), prepare);
     let (rust, theirs, judge) = prepared(|| probe::Probe::new(&before), probe::Probe::prepare);
     assert_eq!((ready, seen(&voice)), (theirs, seen(&judge.rows())), "flush count {count}: the voices differ");
-    assert_ne!(seen(&before), seen(&voice), "flush count {count}: nothing has changed");
+    assert_eq!(voice.words[CONSUMED], before.words[CONSUMED].wrapping_add(count), "flush count {count}: not all is flushed");
     tell(&format!("prepare, flush count {count}"), ours / rust, ours, rust);
 }
 
