@@ -1,5 +1,6 @@
 /* Times of single calls at the largest counts, for docs/FIRMWARE.md. bench/firmware builds and runs it.
- * Each desk is made by an open and one update; then the same render is timed many times: least, median and largest time. */
+ * Each desk is made by an open and one update; then the same render is timed many times: least, median and largest time. One is also timed
+ * after updates that pile flush counts up. */
 #define _POSIX_C_SOURCE 199309L
 #include <stdio.h>
 #include <stdlib.h>
@@ -9,7 +10,7 @@
 #include "jeqlluna.h"
 #include "jeqlluna_title.h"
 
-enum { BASE = 0x10000, MEMORY = 1 << 20, RENDERS = 501 };
+enum { BASE = 0x10000, MEMORY = 1 << 20, RENDERS = 501, PILES = 11, FLUSH = 255 };
 
 /* A desk: how many voices of how many channels, how they play, and how they are mixed. */
 typedef struct {
@@ -17,7 +18,7 @@ typedef struct {
     uint32_t samples, voices, channels, sub_mixes, mix_buffers, buffers; /* buffers: of each mix */
     uint32_t format, rate, looped; /* looped: samples of the loop */
     float volume, gain;
-    int flushes; /* updates of queue count 0, each of which flushes 255, before one more render */
+    int flushes; /* updates of queue count 0, each of which flushes FLUSH or 1 of each voice, before one more render */
 } Desk;
 
 static void put16(uint8_t *at, uint32_t v) { at[0] = (uint8_t)v, at[1] = (uint8_t)(v >> 8); }
@@ -60,6 +61,14 @@ static void put_voice(uint8_t *v, const Desk *d, uint32_t k) {
     put32(w + JEQLLUNA_WAVE_END, d->looped);
     w[JEQLLUNA_WAVE_LOOPING] = 1;
     put32(w + JEQLLUNA_WAVE_LOOP_COUNT, 0xffffffff);
+}
+
+/* Makes the records those of voices that go on, with this queue count and a flush of so many. */
+static void put_flush(uint8_t *records, const Desk *d, uint32_t queued, uint8_t count) {
+    for (uint8_t *v = records; v < records + d->voices * JEQLLUNA_VOICE_SIZE; v += JEQLLUNA_VOICE_SIZE) {
+        put32(v + JEQLLUNA_VOICE_QUEUED, queued);
+        v[JEQLLUNA_VOICE_FLUSH] = count, v[JEQLLUNA_VOICE_IS_NEW] = 0;
+    }
 }
 
 static void put_mix(uint8_t *m, const Desk *d, uint32_t k) {
@@ -141,24 +150,33 @@ static void run(const Desk *d, const uint8_t *memory) {
     printf("%s: render %.0f, %.0f, %.0f us (least, median, largest of %d)", d->name, times[0], median, times[RENDERS - 1], RENDERS);
     printf(", %.1f %% of the %.0f us that it plays; %u rounds; update %.0f us\n", 100 * median / plays, plays, (unsigned)rounds, update);
     if (d->flushes > 0) {
-        uint8_t *v = input + JEQLLUNA_UPDATE_HEADER_SIZE + channels;
-        put32(v + JEQLLUNA_VOICE_QUEUED, 0);
-        v[JEQLLUNA_VOICE_FLUSH] = 255, v[JEQLLUNA_VOICE_IS_NEW] = 0;
-        for (int k = 0; k < d->flushes; k++) check(jeqlluna_update(STATE, 0, input, size, reply, 8192).number, d->name);
-        put32(v + JEQLLUNA_VOICE_QUEUED, 1);
-        check(jeqlluna_update(STATE, 0, input, size, reply, 8192).number, d->name);
-        t = now();
-        check(jeqlluna_render(STATE, BASE, memory, MEMORY, frames, 512).number, d->name);
-        printf("the same after %d updates of queue count 0 that flush 255 each: render %.0f us\n", d->flushes, now() - t);
+        static const uint8_t counts[] = {FLUSH, 1};
+        double after[2][PILES];
+        uint8_t *records = input + JEQLLUNA_UPDATE_HEADER_SIZE + channels;
+        for (int p = 0; p < 2 * PILES; p++) {
+            put_flush(records, d, 0, counts[p % 2]);
+            for (int k = 0; k < d->flushes; k++) check(jeqlluna_update(STATE, 0, input, size, reply, 8192).number, d->name);
+            put_flush(records, d, 1, 0);
+            check(jeqlluna_update(STATE, 0, input, size, reply, 8192).number, d->name);
+            t = now();
+            JeqllunaRender r = jeqlluna_render(STATE, BASE, memory, MEMORY, frames, 512);
+            after[p % 2][p / 2] = now() - t;
+            check(r.number, d->name);
+        }
+        for (int k = 0; k < 2; k++) {
+            qsort(after[k], PILES, sizeof **after, by_size);
+            printf("the same after %d updates that flush %d of each voice, together %d", d->flushes, counts[k], d->flushes * counts[k]);
+            printf(": render %.0f us (median of %d)\n", after[k][PILES / 2], PILES);
+        }
     }
     free(words), free(longs), free(floats), free(contexts), free(history), free(input), free(reply);
 }
 
 int main(void) {
     static const Desk desks[] = {
-        {"one voice, PCM16, 240 samples", 240, 1, 1, 0, 6, 6, JEQLLUNA_VOICE_FORMAT_PCM_INT16, 48000, 40000, 1.0f, 0.5f, 12000},
+        {"one voice, PCM16, 240 samples", 240, 1, 1, 0, 6, 6, JEQLLUNA_VOICE_FORMAT_PCM_INT16, 48000, 40000, 1.0f, 0.5f, 0},
         {"24 voices, PCM16, 240 samples", 240, 24, 1, 4, 10, 2, JEQLLUNA_VOICE_FORMAT_PCM_INT16, 48000, 40000, 1.0f, 0.5f, 0},
-        {"largest counts, PCM16 in step", 256, 64, 6, 31, 96, 3, JEQLLUNA_VOICE_FORMAT_PCM_INT16, 48000, 40000, 0.5f, 0.5f, 0},
+        {"largest counts, PCM16 in step", 256, 64, 6, 31, 96, 3, JEQLLUNA_VOICE_FORMAT_PCM_INT16, 48000, 40000, 0.5f, 0.5f, 3922},
         {"largest counts, ratio 16", 256, 64, 6, 31, 96, 3, JEQLLUNA_VOICE_FORMAT_PCM_INT16, 768000, 40000, 0.5f, 0.5f, 0},
         {"largest counts, ADPCM at 44100 Hz", 256, 64, 6, 31, 96, 3, JEQLLUNA_VOICE_FORMAT_ADPCM, 44100, 40000, 0.5f, 0.5f, 0},
         {"largest counts, 24 buffers a mix", 256, 64, 6, 3, 96, 24, JEQLLUNA_VOICE_FORMAT_PCM_INT16, 44100, 40000, 0.5f, 0.5f, 0},
