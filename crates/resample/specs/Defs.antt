@@ -71,10 +71,10 @@ unfolding sampleAt
 samples points ratio fraction zero = []
 samples points ratio fraction (suc n) = samples points ratio fraction n ++ (sampleAt points ratio fraction n ∷ [])
 
--- The point after three that have no fourth, which the Rust reads past its input: the third again.
--- This choice stands here alone.
+-- The point after three that have no fourth, where the Rust reads past its input: one step on along the line through the second and the
+-- third, 2 * third - second, the product first. This choice stands here alone.
 unfoldable pub fourth : Float → Float → Float → Float
-fourth a b c = c
+fourth a b c = sub binary32 (mul binary32 two c) b
 
 abbrev pub withFourth : List Float → List Float
 withFourth input =

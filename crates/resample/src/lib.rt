@@ -36,11 +36,11 @@ pub fn needed(fraction: f32, ratio: f32, count: u32) -> usize
     floats::as_usize(place(fraction, ratio, count))
 }
 
-// The point after three that have no fourth: the third again.
+// The point after three that have no fourth: one step on along the line through the second and the third.
 fn fourth(a: f32, b: f32, c: f32) -> f32
     ensures { λ r. ⌜ r ≡ fourth a b c ⌝ }
 {
-    c
+    2.0 * c - b
 }
 
 // The outputs from four points or more, and the next fraction.
