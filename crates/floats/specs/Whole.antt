@@ -18,7 +18,7 @@ pub round-at : (s : Bool) (n k c : ℕ) → 0 < c → k ≤ 2 ^ 24 → n ≡ k *
 round-at s n k c p l h =
     subst (λ (x : Float). HasValue x s k 1) (sym (round-same binary32 s n c k 1 p (lit< tt) (mul-one n ∙ h))) (round-whole binary32 s k l)
 
-sub-mul : (b a c : ℕ) → (b - a) * c ≡ b * c - a * c
+pub sub-mul : (b a c : ℕ) → (b - a) * c ≡ b * c - a * c
 sub-mul b a c = mul-comm (b - a) c ∙ mul-sub c b a ∙ ap (λ (z : ℕ). z - c * a) (mul-comm c b) ∙ ap (λ (z : ℕ). b * c - z) (mul-comm c a)
 
 -- ---- the product

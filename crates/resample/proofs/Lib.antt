@@ -1,1 +1,5 @@
 pub mod Filling
+pub mod Integers
+pub mod Held
+pub mod Level
+pub mod HeldTable
