@@ -38,6 +38,11 @@ pub difference-rounds : fourth zero32 one (fin false 1 (pos 24)) ≡ fin false 1
 unfolding fourth sub mul
 difference-rounds = refl
 
+-- after 2 and 2^24 + 1, which is no float and becomes 2^24, comes 2^25 - 2, and not 2 (2^24 + 1) - 2, which is 2^25
+pub third-rounds : fourth zero32 (ofInt binary32 (pos 2)) (ofInt binary32 (pos 16777217)) ≡ fin false 16777215 (pos 1)
+unfolding fourth sub mul ofInt
+third-rounds = refl
+
 -- after 5 and 2^26 comes 2^27 - 8; the third plus what it is above the second would be 2^27
 pub product-first : fourth zero32 five (fin false 1 (pos 26)) ≡ fin false (2 ^ 24 - 1) (pos 3)
 unfolding fourth sub mul
