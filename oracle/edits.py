@@ -7,8 +7,9 @@ import sys
 
 EDITS = {
     "dsp.rs": [
-        # Three samples (needed is 0): the Rust reads past them and panics; the missing fourth point equals the third.
-        ("let p3 = input[i + 3];", "let p3 = input.get(i + 3).copied().unwrap_or(p2);"),
+        # Three samples (needed is 0): the Rust reads past them and panics. Here it counts that it has no answer and runs on, so that it can
+        # be asked for all that doesn't depend on the point.
+        ("let p3 = input[i + 3];", "let p3 = input.get(i + 3).copied().unwrap_or_else(crate::no_answer);"),
     ],
     "mod.rs": [
         # The reply does not depend on the process, which is only warned.
@@ -28,6 +29,18 @@ EDITS = {
 }
 # Document 02's rules, which come after these edits.
 RULES = {
+    "dsp.rs": [
+        # L4: where there is no fourth point, 2 × third - second, the product first; these points are counted.
+        (".unwrap_or_else(crate::no_answer)", ".unwrap_or_else(|| crate::fourth(2.0 * p2 - p1))"),
+    ],
+    "mixer.rs": [
+        # Voices that come to L4's rule are counted by format and channels.
+        (
+            "        voice.fetch(mem, needed, &mut self.src, buffers_v2);\n",
+            "        if needed == 0 {\n            crate::count_still(voice.format, channels);\n        }\n"
+            "        voice.fetch(mem, needed, &mut self.src, buffers_v2);\n",
+        ),
+    ],
     "mod.rs": [
         # L2: an empty input skips the five updates and tells the positions.
         (

@@ -9,6 +9,9 @@ use std::cell::Cell;
 thread_local! {
     static ROUNDS: Cell<u64> = const { Cell::new(0) };
     static EMPTY: Cell<[u64; 2]> = const { Cell::new([0; 2]) };
+    static NO_ANSWERS: Cell<u64> = const { Cell::new(0) };
+    static FOURTHS: Cell<u64> = const { Cell::new(0) };
+    static STILL: Cell<Still> = const { Cell::new(Still { formats: [0; 4], channels: [0; 6] }) };
 }
 
 /// Counts a round of `fetch` that got past its first test.
@@ -30,6 +33,51 @@ pub fn count_empty(told: bool) {
 /// The empty updates counted since the last call, and those of them that tell a position that isn't 0.
 pub fn take_empty() -> [u64; 2] {
     EMPTY.replace([0; 2])
+}
+
+/// Stands where kirikae reads a fourth point of three, and panics. Counts that the Rust has no answer here, and gives what shows wherever
+/// it is taken for one.
+#[cold]
+pub fn no_answer() -> f32 {
+    NO_ANSWERS.set(NO_ANSWERS.get() + 1);
+    f32::NAN
+}
+
+/// The points without answer counted since the last call: none where the oracle follows document 02's rules.
+pub fn take_no_answers() -> u64 {
+    NO_ANSWERS.replace(0)
+}
+
+/// Counts a fourth point that document 02's rule gives, and gives it back.
+#[cold]
+pub fn fourth(point: f32) -> f32 {
+    FOURTHS.set(FOURTHS.get() + 1);
+    point
+}
+
+/// The fourth points counted since the last call: none where the oracle is the Rust alone.
+pub fn take_fourths() -> u64 {
+    FOURTHS.replace(0)
+}
+
+/// Voices that were rendered without a new sample, by format (16-bit PCM, float PCM, ADPCM, silence) and by number of channels, 1 to 6.
+#[derive(Clone, Copy, Default)]
+pub struct Still {
+    pub formats: [u64; 4],
+    pub channels: [u64; 6],
+}
+
+/// Counts a voice that is rendered without a new sample.
+pub fn count_still(format: u8, channels: usize) {
+    let mut still = STILL.get();
+    still.formats[match format { 2 => 0, 5 => 1, 6 => 2, _ => 3 }] += 1;
+    still.channels[channels - 1] += 1;
+    STILL.set(still);
+}
+
+/// The voices counted since the last call: none where the oracle is the Rust alone.
+pub fn take_still() -> Still {
+    STILL.take()
 }
 
 /// Stands where kirikae has guest memory; sample memory comes through `mixer::Mem`.

@@ -152,16 +152,24 @@ fn run(input: &[u8], limits: bool, out: &mut String) -> Result<(), u32> {
 
 #[cfg(test)]
 mod tests {
-    use super::program;
+    use super::{Session, lengths, program};
+
+    fn put(d: &mut [u8], at: usize, v: u32) {
+        d[at..at + 4].copy_from_slice(&v.to_le_bytes());
+    }
+
+    /// Parameters with this many samples, mix buffers, voices and sinks.
+    fn parameters(samples: u32, buffers: u32, voices: u32, sinks: u32) -> [u8; 0x34] {
+        let mut p = [0; 0x34];
+        for (at, v) in [(0, 48000), (4, samples), (8, buffers), (0x10, voices), (0x14, sinks), (0x30, 0x3556_4552)] {
+            put(&mut p, at, v);
+        }
+        p
+    }
 
     /// Parameters with this many samples and voices, no memory, and these calls.
     fn input(samples: u32, voices: u32, count: u32, calls: &[u8]) -> Vec<u8> {
-        let mut p = [0u8; 0x34];
-        p[..4].copy_from_slice(&48000u32.to_le_bytes());
-        p[4..8].copy_from_slice(&samples.to_le_bytes());
-        p[0x10..0x14].copy_from_slice(&voices.to_le_bytes());
-        p[0x30..].copy_from_slice(&0x3556_4552u32.to_le_bytes());
-        [&0x34u32.to_le_bytes()[..], &p, &[0; 4], &count.to_le_bytes(), calls].concat()
+        [&0x34u32.to_le_bytes()[..], &parameters(samples, 0, voices, 0), &[0; 4], &count.to_le_bytes(), calls].concat()
     }
 
     fn update(expected: u32) -> Vec<u8> {
@@ -180,7 +188,6 @@ mod tests {
     /// An update with one voice, new and started, at 48,000 Hz, with a buffer of ten samples of a format that is silence, and no route.
     fn record() -> Vec<u8> {
         let mut d = vec![0; 0x40 + 0x170];
-        let put = |d: &mut [u8], at: usize, v: u32| d[at..at + 4].copy_from_slice(&v.to_le_bytes());
         put(&mut d, 0x0c, 0x170);
         let voice = &mut d[0x40..];
         voice[8..10].fill(1);
@@ -217,6 +224,46 @@ mod tests {
             &told(3, 0, 0),
         ];
         assert_eq!(program(&input(4, 1, 10, &calls), true), printed.concat());
+    }
+
+    /// Document 02, L4: pitch 0.5 over the 16-bit sample 100, three samples a render, then pitch 0. The second render needs no new sample:
+    /// its points are 0, 0, 100 and then 200, and each of its outputs, all at 0.5 between the second and the third, is 43.75.
+    #[test]
+    fn held_notes() {
+        const VOICE: usize = 0x40 + 0x70;
+        let (p, memory) = (parameters(3, 1, 1, 1), [100, 0, 200, 0, 44, 1, 144, 1]);
+        let mut session = Session::open(&p, lengths(&p).unwrap()).unwrap();
+        let mut d = vec![0; VOICE + 0x170 + 0x930 + 0x140];
+        for (at, v) in [(0x0c, 0x170), (0x10, 0x70), (0x18, 0x930), (0x1c, 0x140), (0x44, 1f32.to_bits())] {
+            put(&mut d, at, v);
+        }
+        let (voice, rest) = d[VOICE..].split_at_mut(0x170);
+        let (mix, sink) = rest.split_at_mut(0x930);
+        voice[8..12].copy_from_slice(&[1, 1, 0, 2]);
+        let fields = [(0x0c, 48000), (0x18, 1), (0x1c, 0.5f32.to_bits()), (0x20, 1f32.to_bits()), (0x3c, 1), (0x5c, u32::MAX)];
+        for (at, v) in fields.into_iter().chain([(0x60, 0x10000), (0x68, 8), (0x74, 4)]) {
+            put(voice, at, v);
+        }
+        for b in 1..4 {
+            voice[0x60 + b * 0x38 + 0x1a] = 1;
+        }
+        for (at, v) in [(0, 1f32.to_bits()), (8, 1), (0x0c, 1), (0x924, 0x7fff_ffff), (0x928, u32::MAX)] {
+            put(mix, at, v);
+        }
+        sink[..2].fill(1);
+        sink[0x120] = 1;
+        // The frames times 32,768, the rounds and the fourth points by the rule. Both renders leave the voice alike.
+        let mut render = |input: &[u8]| {
+            session.update(0, input, 0x1000).unwrap();
+            let (frames, rounds) = session.render(0x10000, &memory, 6).unwrap();
+            let s = session.slices();
+            assert_eq!((s.longs[2], s.floats[3], &s.history[..3]), (1, 0.5, &[0.0, 0.0, 100.0][..]), "played, fraction, history");
+            (frames.iter().map(|x| x * 32768.0).collect::<Vec<f32>>(), rounds, crate::take_fourths())
+        };
+        assert_eq!(render(&d), (vec![0.0, 0.0, -6.25, -6.25, 0.0, 0.0], 1, 0));
+        put(&mut d, VOICE + 0x1c, 0f32.to_bits());
+        (d[VOICE + 8], d[VOICE + 0x60 + 0x1a]) = (0, 1);
+        assert_eq!(render(&d), (vec![43.75; 6], 0, 3));
     }
 
     #[test]
