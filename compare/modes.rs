@@ -6,7 +6,7 @@ use crate::refusals::{refused, refused_opens};
 use crate::title::Title;
 use oracle::renderer::Probe;
 
-pub const MODES: [&str; 7] = ["played", "routes", "damaged", "random", "refused", "limits", "small"];
+pub const MODES: [&str; 8] = ["played", "routes", "damaged", "random", "refused", "limits", "small", "slowed"];
 
 /// A call. `spare` is how much longer, or shorter, the reply or frame slice is than what the call gives.
 #[derive(Clone)]
@@ -65,6 +65,13 @@ fn small(r: &mut Random) -> Vec<u32> {
     p
 }
 
+/// Parameters of a title that is heard, with any number of samples that is allowed.
+fn any_samples(r: &mut Random) -> Vec<u32> {
+    let mut p = heard(r);
+    p[1] = [1, 256, 1 + r.below(32) as u32, 1 + r.below(256) as u32][r.below(4) as usize];
+    p
+}
+
 /// The expected size: mostly what titles ask for, with 16 bytes for each effect.
 fn expected(r: &mut Random, p: &[u32]) -> u32 {
     match r.below(8) {
@@ -90,15 +97,40 @@ fn played(r: &mut Random, p: Vec<u32>, rewired: bool) -> Vec<Call> {
         if rewired && !calls.is_empty() {
             title.rewire(r);
         }
-        calls.push(Call::Update { expected: expected(r, &title.p), input: title.input(r), spare: r.below(3) as i64 });
-        for _ in 0..r.below(4) {
-            if r.below(3) == 0 {
-                title.stream(r);
-            }
-            calls.push(Call::Render { base: BASE, memory: title.memory.clone(), spare: r.below(3) as i64 });
-        }
+        sent(r, &mut title, &mut calls);
     }
     calls.truncate(count);
+    calls
+}
+
+/// A title's update and a few renders.
+fn sent(r: &mut Random, title: &mut Title, calls: &mut Vec<Call>) {
+    calls.push(Call::Update { expected: expected(r, &title.p), input: title.input(r), spare: r.below(3) as i64 });
+    for _ in 0..r.below(4) {
+        if r.below(3) == 0 {
+            title.stream(r);
+        }
+        calls.push(Call::Render { base: BASE, memory: title.memory.clone(), spare: r.below(3) as i64 });
+    }
+}
+
+/// The calls of a title whose chart slows down: a few turns at normal pitch, so that its voices have sound behind them, then turns in
+/// which voices need few new samples or none, and now and then go on at normal pitch. Half of the titles have float sounds of many
+/// magnitudes.
+fn slowed(r: &mut Random, p: Vec<u32>) -> Vec<Call> {
+    let mut title = Title::new(r, p);
+    if r.below(2) == 0 {
+        title.widen(r);
+    }
+    let mut calls = Vec::new();
+    let (normal, turns) = (1 + r.below(3), 4 + r.below(8));
+    for k in 0..turns {
+        title.turn(r);
+        if k >= normal {
+            title.slow(r);
+        }
+        sent(r, &mut title, &mut calls);
+    }
     calls
 }
 
@@ -159,6 +191,7 @@ pub fn session(r: &mut Random, mode: &str) -> Session {
     let p = match mode {
         "limits" => most(r),
         "small" => small(r),
+        "slowed" => any_samples(r),
         "random" if r.below(2) == 0 => parameters(r),
         _ => heard(r),
     };
@@ -187,6 +220,7 @@ pub fn session(r: &mut Random, mode: &str) -> Session {
             let rewired = r.below(2) == 0;
             played(r, p.clone(), rewired)
         }
+        "slowed" => slowed(r, p.clone()),
         _ => played(r, p.clone(), mode == "routes"),
     };
     opens.push(Open { parameters: parameter_bytes(r, &p), off: [0; 5] });

@@ -15,17 +15,22 @@ fn unit(r: &mut Random) -> f32 {
     r.below(0x20000) as f32 / 65536.0 - 1.0
 }
 
+/// A number from -1 to 1 of one of many magnitudes, with as many bits as a float has.
+fn wide(r: &mut Random) -> f32 {
+    r.next() as i32 as f32 / (1u64 << (31 + r.below(16))) as f32
+}
+
 /// A gain or volume as titles send them.
 pub fn level(r: &mut Random) -> f32 {
     [0.0, 1.0, 1.0, 0.5, 0.25, 0.707, 1.0, 0.9, 1.5, -0.5][r.below(10) as usize]
 }
 
-/// Fills a part of memory with what belongs there.
-fn fill(r: &mut Random, memory: &mut [u8], from: usize, to: usize) {
+/// Fills a part of memory with what belongs there; float sounds with numbers of many magnitudes, if they are `widened`.
+fn fill(r: &mut Random, memory: &mut [u8], from: usize, to: usize, widened: bool) {
     let mut at = from;
     while at < to {
         let word = match at {
-            FLOATS..ADPCM => unit(r).to_bits(),
+            FLOATS..ADPCM => if widened { wide(r) } else { unit(r) }.to_bits(),
             ADPCM.. if at % 8 == 0 => (r.next() as u32 & !0xff) | (r.below(8) << 4 | r.below(12)) as u32,
             ADPCM.. => r.next() as u32,
             INTEGERS.. => r.next() as u32 & 0x3fff_3fff,
@@ -45,6 +50,7 @@ struct Player {
 pub struct Title {
     pub p: Vec<u32>,
     pub memory: Vec<u8>,
+    widened: bool,
     voices: Vec<Player>,
     resources: Vec<Vec<u8>>,
     pub desk: Desk,
@@ -53,17 +59,23 @@ pub struct Title {
 impl Title {
     pub fn new(r: &mut Random, p: Vec<u32>) -> Title {
         let mut memory = vec![0; SIZE];
-        fill(r, &mut memory, 0, SIZE);
+        fill(r, &mut memory, 0, SIZE, false);
         let voices = (0..p[4]).map(|_| Player { record: vec![0; 0x170], next: 0 }).collect();
         let resources = (0..p[4]).map(|_| vec![0; 0x70]).collect();
         let desk = Desk::new(r, &p);
-        Title { p, memory, voices, resources, desk }
+        Title { p, memory, widened: false, voices, resources, desk }
+    }
+
+    /// Float sounds of many magnitudes from now on, and most voices play them.
+    pub fn widen(&mut self, r: &mut Random) {
+        self.widened = true;
+        fill(r, &mut self.memory, FLOATS, ADPCM, true);
     }
 
     /// Some of the sounds change, as where a title streams.
     pub fn stream(&mut self, r: &mut Random) {
         let from = r.below(SIZE as u64 / 8) as usize * 8;
-        fill(r, &mut self.memory, from, (from + 0x400).min(SIZE));
+        fill(r, &mut self.memory, from, (from + 0x400).min(SIZE), self.widened);
     }
 
     /// A mix, or a splitter.
@@ -82,6 +94,9 @@ impl Title {
         d[8] = 1;
         d[9] = 1;
         d[0x0b] = [2, 2, 2, 5, 5, 6, 6, 6, 6, 1, 3, 4][r.below(12) as usize];
+        if self.widened && r.below(4) != 0 {
+            d[0x0b] = 5;
+        }
         let channels = if d[0x0b] == 6 && r.below(4) != 0 { 1 } else { 1 + r.below(6) as u32 };
         put_u32(d, 0x18, channels);
         put_u32(d, 0x58, route.0);
@@ -194,6 +209,18 @@ impl Title {
             }
         }
         self.desk.turn(r);
+    }
+
+    /// Most voices slow down, so far that a short render needs no new sample; one in eight goes on at pitch 1, and one stays as it is.
+    pub fn slow(&mut self, r: &mut Random) {
+        for Player { record, .. } in &mut self.voices {
+            let pitch = match r.below(8) {
+                0 => 1.0f32,
+                1 => continue,
+                _ => [0.0, 1e-9, 0.003, 0.02][r.below(4) as usize],
+            };
+            put(record, 0x1c, &pitch.to_le_bytes());
+        }
     }
 
     /// Voices change their routes, formats and channel counts while they play, and the desk its wires.
