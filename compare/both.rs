@@ -5,7 +5,8 @@ use crate::port::{self, Lengths, Render, Update, all, place, places, seen, uncha
 use oracle::mixer::probe::Slices;
 use oracle::session::Session as Oracle;
 
-/// What is linked as the oracle: the Rust, which isn't given empty updates, or the Rust with document 02's rules, which is given all.
+/// What is linked as the oracle: the Rust, which isn't given empty updates and has no answer to a render in which a voice needs no new
+/// sample; or the Rust with document 02's rules, which is given all and answers all.
 #[allow(dead_code)]
 #[derive(Clone, Copy, PartialEq)]
 pub enum Judge {
@@ -23,6 +24,9 @@ pub struct Tally {
     pub sounding: u64,
     pub nans: u64,
     pub rounds: u64,
+    /// Renders in which a voice needs no new sample, and those of them with an answer in which a frame isn't 0.
+    pub still: u64,
+    pub still_sounding: u64,
     /// Empty updates that are refused; `reached` counts those that succeed.
     pub empty_refused: u64,
     pub reached: Reached,
@@ -106,16 +110,25 @@ fn call(c: &Call, s: &mut Slices, oracle: &mut Oracle, judge: Judge, t: &mut Tal
             if result.is_ok() && frames.len() != 2 * oracle.samples() {
                 return Err(format!("the oracle gives {} floats", frames.len()));
             }
+            let (unanswered, by_rule) = (oracle::take_no_answers() > 0, oracle::take_fourths() > 0);
+            if (judge == Judge::Rust && by_rule) || (judge == Judge::Rules && unanswered) {
+                return Err("the oracle is not the judge that is named".into());
+            }
             let should = Render { number: result.as_ref().err().copied().unwrap_or(0), rounds: rounds as u32 };
             let (given, beyond) = out.split_at(frames.len().min(room));
-            if answer != should || all(given) != all(frames) || beyond.iter().any(|&x| x != 0.25) {
-                return Err(format!("render {answer:?}, not {should:?}; frames at {:?}", place(&all(given), &all(frames))));
+            let differs = if unanswered { None } else { place(&all(given), &all(frames)) };
+            if answer != should || differs.is_some() || beyond.iter().any(|&x| x != 0.25) {
+                return Err(format!("render {answer:?}, not {should:?}; frames at {differs:?}"));
             }
-            let sounding = frames.chunks(2).filter(|f| f[0] != 0.0 || f[1] != 0.0).count() as u64;
-            t.sounding += sounding;
-            t.silent += frames.len() as u64 / 2 - sounding;
-            t.nans += frames.iter().filter(|x| x.is_nan()).count() as u64;
             t.rounds += rounds;
+            t.still += u64::from(unanswered || by_rule);
+            if !unanswered {
+                let sounding = frames.chunks(2).filter(|f| f[0] != 0.0 || f[1] != 0.0).count() as u64;
+                t.sounding += sounding;
+                t.silent += frames.len() as u64 / 2 - sounding;
+                t.nans += frames.iter().filter(|x| x.is_nan()).count() as u64;
+                t.still_sounding += u64::from(by_rule && sounding > 0);
+            }
             (should.number, false)
         }
     };

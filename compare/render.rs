@@ -1,14 +1,18 @@
 //! Holds a render to kirikae's `State::render`: the frames, the rounds and the whole state after it, from any whole state.
 //!
 //! `render [SEED [COUNT]]` compares COUNT renders of random desks, some of them several in a row on one state.
+//! The Rust has no answer to a render in which a voice needs no new sample: of such a render all but the frames is compared; frames by the
+//! driver `rules`. From a COUNT of 1,000 on, there must be some.
 mod generate;
+mod lively;
 #[allow(dead_code)]
 mod port;
 mod random;
-use generate::{BASE, state};
+use generate::BASE;
+use lively::lively;
 use oracle::mixer::probe::Slices;
 use oracle::renderer::Probe;
-use oracle::{Memory, take_rounds};
+use oracle::{Memory, take_no_answers, take_rounds};
 use port::{all, place, places, seen};
 use random::Random;
 
@@ -20,75 +24,32 @@ fn rendered(before: &Slices, base: u64, memory: &[u8], room: usize) -> (u32, u64
     (answer.number, u64::from(answer.rounds), s, frames)
 }
 
-/// More of a random state is heard: voices in use and started, with wave buffers queued; mixes in use; room for most mix buffers; a device sink that
-/// takes the final mix's first buffers.
-fn livelier(r: &mut Random, s: &mut Slices) {
-    let (mixes, voices, sinks) = (s.words[3] as usize + 1, s.words[4] as usize, s.words[5] as usize);
-    if r.below(4) != 0 {
-        s.words[2] = 24 + r.below(73) as u32;
-    }
-    for k in 0..voices {
-        let w = &mut s.words[10 + k * 58..][..58];
-        if r.below(8) != 0 {
-            w[0] = 1;
-            w[5] = w[5].max(1);
-            w[6] = w[6].max(1);
-        }
-        if r.below(4) != 0 {
-            w[2] = 0;
-        }
-        if r.below(3) != 0 {
-            w[8] = 0;
-        }
-        if r.below(2) == 0 {
-            w[10] = r.below(mixes as u64) as u32;
-        }
-    }
-    let at = 10 + voices * 58;
-    let mut offset = 0;
-    for m in 0..mixes {
-        let w = &mut s.words[at + m * 5..][..5];
-        if r.below(3) != 0 {
-            w[0] = 1;
-            w[1] = 1 + r.below(6) as u32;
-        }
-        w[4] = offset;
-        offset += w[1];
-    }
-    if sinks > 0 && r.below(8) != 0 {
-        let w = &mut s.words[at + mixes * 5..][..10];
-        w[..2].fill(1);
-        for k in 0..w[2] as usize {
-            w[3 + k] = r.below(5) as u32;
-        }
-    }
-}
-
 fn main() {
     let args: Vec<String> = std::env::args().skip(1).collect();
     let number = |k: usize, d| args.get(k).map_or(d, |a| a.parse().expect("a number"));
     let (r, count) = (&mut Random(number(0, 1)), number(1, 50_000));
     let (mut compared, mut differ) = (0u64, 0u64);
-    let (mut rounds, mut sounding, mut nans, mut most) = (0u64, 0u64, 0u64, [0u32; 2]);
+    let (mut rounds, mut sounding, mut nans, mut without, mut most) = (0u64, 0u64, 0u64, 0u64, [0u32; 2]);
     while compared < count {
         let size = [0, 6, 400, 2000, 2000, 2000][r.below(6) as usize];
-        let mut before = state(r, size);
-        livelier(r, &mut before);
+        let mut before = lively(r, size);
         for _ in 0..1 + r.below(3) {
             let memory = r.bytes(size as usize);
             let oracle = Probe::restore(&before);
             take_rounds();
             let frames: Vec<f32> = oracle.render(&Memory { base: BASE, bytes: &memory }).into_iter().flatten().collect();
-            let spent = take_rounds();
+            let (spent, unanswered) = (take_rounds(), take_no_answers() > 0);
             let after = oracle.slices();
             let room = frames.len() + r.below(6) as usize;
             let (number, given, slices, out) = rendered(&before, BASE, &memory, room);
-            let heard = all(&out[..frames.len()]) == all(&frames) && out[frames.len()..].iter().all(|&x| x == 0.25);
-            let same = number == 0 && given == spent && heard && seen(&slices) == seen(&after);
+            let heard = unanswered || all(&out[..frames.len()]) == all(&frames);
+            let kept = out[frames.len()..].iter().all(|&x| x == 0.25);
+            let same = number == 0 && given == spent && heard && kept && seen(&slices) == seen(&after);
             compared += 1;
             rounds += spent;
-            sounding += u64::from(frames.iter().any(|&x| x != 0.0));
-            nans += u64::from(frames.iter().any(|x| x.is_nan()));
+            without += u64::from(unanswered);
+            sounding += u64::from(!unanswered && frames.iter().any(|&x| x != 0.0));
+            nans += u64::from(!unanswered && frames.iter().any(|x| x.is_nan()));
             most = [most[0].max(before.words[3]), most[1].max(before.words[8])];
             if !same {
                 differ += 1;
@@ -112,8 +73,13 @@ fn main() {
         }
     }
     println!("renders: {sounding} with frames that are not all 0, {nans} with a NaN; {rounds} rounds; up to {} sub-mixes and {} destinations", most[0], most[1]);
+    println!("without answer: {without} renders, whose frames are not compared");
+    let none = count >= 1000 && without == 0;
+    if none {
+        println!("never reached: a render without answer");
+    }
     println!("{compared} compared, {differ} differ");
-    if differ != 0 {
+    if differ != 0 || none {
         std::process::exit(1);
     }
 }

@@ -2,6 +2,8 @@
 //!
 //! `session [SEED [COUNT [MODE..]]]` compares COUNT sessions of each mode. A session that differs is made smaller and printed.
 //! The Rust isn't given empty updates: those are held to compare/empty.rs. From 100 sessions of the mode `random` on, there must be some.
+//! It has no answer to a render in which a voice needs no new sample: of such a render all but the frames is compared; frames by the driver
+//! `rules`. From 100 sessions of the mode `slowed` on, there must be some.
 mod both;
 mod desk;
 mod empty;
@@ -25,14 +27,17 @@ fn main() {
     let wanted = args.get(2..).filter(|m| !m.is_empty()).map_or(MODES.to_vec(), |m| m.iter().map(String::as_str).collect());
     let total = sessions::compare(seed, count, &wanted, Judge::Rust, session);
     println!("not given to the Rust: {}; {} more refused by 6", total.reached, total.empty_refused);
-    let none = count >= 100 && wanted.contains(&"random") && total.reached.empty == 0;
-    if none {
-        println!("never reached: an empty update");
+    println!("without answer: {} renders, {} of them in the mode slowed", total.still, total.still_slowed);
+    let asked = |mode| count >= 100 && wanted.contains(&mode);
+    let counts = [("random", "an empty update", total.reached.empty), ("slowed", "a render without answer", total.still_slowed)];
+    let never: Vec<&str> = counts.iter().filter(|c| asked(c.0) && c.2 == 0).map(|c| c.1).collect();
+    for what in &never {
+        println!("never reached: {what}");
     }
     println!("{} compared, {} differ", total.compared, total.differ);
     #[cfg(cover)]
     oracle::cover::write();
-    if total.differ != 0 || none {
+    if total.differ != 0 || !never.is_empty() {
         std::process::exit(1);
     }
 }

@@ -11,6 +11,10 @@ pub struct Total {
     pub differ: u64,
     pub empty_refused: u64,
     pub reached: Reached,
+    /// As in a mode's tally; and how many of the first are of the mode `slowed`.
+    pub still: u64,
+    pub still_sounding: u64,
+    pub still_slowed: u64,
 }
 
 /// Leaves out calls as long as the session still differs.
@@ -69,10 +73,17 @@ pub fn compare(seed: u64, count: u64, modes: &[&str], judge: Judge, make: fn(&mu
         let kinds = format!("{} updates, {} renders", t.updates, t.renders);
         println!("{mode}: {count} sessions, {} opens, {calls} calls ({kinds}); refused by 1, 2, 3, 5, 6, 7: {refused:?}", t.opens);
         println!("  frames: {} silent, {} sounding, {} NaNs; {} rounds; {differing} differ", t.silent, t.sounding, t.nans, t.rounds);
+        match judge {
+            Judge::Rust => println!("  renders without answer, whose frames are not compared: {}", t.still),
+            Judge::Rules => println!("  renders by the rule for a fourth point: {}, of which {} sound", t.still, t.still_sounding),
+        }
         total.compared += calls + t.opens;
         total.differ += differing;
         total.empty_refused += t.empty_refused;
         total.reached.add(&t.reached);
+        total.still += t.still;
+        total.still_sounding += t.still_sounding;
+        total.still_slowed += if *mode == "slowed" { t.still } else { 0 };
     }
     total
 }
