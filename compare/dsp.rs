@@ -1,12 +1,16 @@
-//! Holds `adpcm`, `resample` and `floats` to kirikae's dsp.rs.
+//! Holds `adpcm`, `resample` and `floats` to kirikae's dsp.rs; the outputs of a resample of three inputs, where the Rust has no answer, to
+//! the Rust with document 02's rules.
 //!
-//! `dsp [SEED [COUNT]]` compares; COUNT is the number of random ADPCM calls and of resamples beyond the exhaustive ones.
+//! `dsp [SEED [COUNT]]` compares; COUNT is the number of random ADPCM calls and of resamples beyond the exhaustive ones. It fails where no
+//! resample of three inputs was reached.
 //! `dsp store STDIN STDOUT` writes cases and the oracle's answers for the program replay_main.
 mod probed;
 mod random;
+mod resamples;
 use oracle::dsp;
 use probed::{ProbeContext, ProbeDecoded};
 use random::{Random, bits};
+use resamples::{Resample, Resampled};
 
 unsafe extern "C" {
     fn probe_decode_adpcm(
@@ -15,10 +19,6 @@ unsafe extern "C" {
     ) -> ProbeDecoded;
     fn probe_parse(data: *const u8, data_len: usize) -> ProbeContext;
     fn probe_adpcm_size(samples: u64) -> u64;
-    fn probe_resample(
-        input: *const f32, input_len: usize, out: *mut f32, out_len: usize, count: u32, ratio: f32, fraction: f32,
-    ) -> f32;
-    fn probe_needed(fraction: f32, ratio: f32, count: u32) -> u64;
     fn probe_from_bits(b: u32) -> f32;
     fn probe_to_bits(x: f32) -> u32;
     fn probe_as_usize(x: f32) -> u64;
@@ -101,56 +101,6 @@ impl Adpcm {
     }
 }
 
-struct Resample {
-    input: Vec<f32>,
-    count: u32,
-    room: usize,
-    ratio: f32,
-    fraction: f32,
-}
-
-/// The samples needed, the next fraction and the output's bits.
-#[derive(PartialEq, Debug)]
-struct Resampled(u64, u32, Vec<u32>);
-
-impl Resample {
-    fn random(r: &mut Random) -> Resample {
-        let len = if r.below(8) == 0 { 3 } else { 3 + r.below(40) as usize };
-        let count = r.below(40) as u32;
-        let whole = r.below(3) == 0;
-        let input = (0..len).map(|_| if whole { r.next() as i16 as f32 } else { r.float() }).collect();
-        Resample { input, count, room: (count as u64 + r.below(4)) as usize, ratio: r.float(), fraction: r.float() }
-    }
-
-    fn oracle(&self) -> Resampled {
-        let mut out = vec![FILL; self.room];
-        let next = dsp::resample(&self.input, &mut out[..self.count as usize], self.ratio, self.fraction);
-        let needed = dsp::needed(self.fraction, self.ratio, self.count as usize);
-        Resampled(needed as u64, bits(next), out.iter().map(|&x| bits(x)).collect())
-    }
-
-    fn port(&self) -> Resampled {
-        let mut out = vec![FILL; self.room];
-        let next = unsafe {
-            probe_resample(
-                self.input.as_ptr(), self.input.len(), out.as_mut_ptr(), out.len(), self.count, self.ratio, self.fraction,
-            )
-        };
-        let needed = unsafe { probe_needed(self.fraction, self.ratio, self.count) };
-        Resampled(needed, bits(next), out.iter().map(|&x| bits(x)).collect())
-    }
-
-    fn store(&self, to: &mut Vec<u8>) {
-        to.push(2);
-        for n in [self.input.len() as u32, self.count, self.room as u32, self.ratio.to_bits(), self.fraction.to_bits()] {
-            to.extend(n.to_le_bytes());
-        }
-        for x in &self.input {
-            to.extend(x.to_bits().to_le_bytes());
-        }
-    }
-}
-
 #[derive(Default)]
 struct Tally {
     compared: u64,
@@ -205,7 +155,8 @@ fn adpcm_cases(r: &mut Random, count: u64, mut each: impl FnMut(Adpcm)) {
     }
 }
 
-fn compare(seed: u64, count: u64) -> u64 {
+/// Whether nothing differed, and all was reached.
+fn compare(seed: u64, count: u64) -> bool {
     let r = &mut Random(seed);
     let mut adpcm = Tally::default();
     let mut refused = [0u64; 2];
@@ -233,16 +184,23 @@ fn compare(seed: u64, count: u64) -> u64 {
     println!("adpcm_size and AdpcmContext::parse: {} calls; {} differ", places.compared, places.differ);
 
     let mut resample = Tally::default();
-    let (mut three, mut still) = (0, 0);
+    let (mut three, mut still, mut shown) = (0, 0, [0; 2]);
     for _ in 0..count.max(200_000) {
         let c = Resample::random(r);
-        three += u64::from(c.input.len() == 3);
+        three += u64::from(c.three());
+        for (n, shows) in shown.iter_mut().zip(c.shows()) {
+            *n += u64::from(shows);
+        }
         let oracle = c.oracle();
         still += u64::from(oracle.0 == 0);
         let what = || format!("resample {} inputs count {} ratio {} fraction {}", c.input.len(), c.count, c.ratio, c.fraction);
         resample.hold(what, c.port(), oracle);
     }
     println!("resample and needed: {} calls, of which three samples: {three}, needed 0: {still}; {} differ", resample.compared, resample.differ);
+    let [third, elsewhere] = shown;
+    println!("  of three samples {third} would differ with the third as fourth point, {elsewhere} with the point rounded elsewhere");
+    let (unanswered, by_rule) = (oracle::take_no_answers(), rules::take_fourths());
+    println!("  points at which the Rust has no answer: {unanswered}, and document 02's rule has one: {by_rule}");
 
     let mut leaves = Tally::default();
     for k in 0..count.max(1_000_000) {
@@ -267,8 +225,12 @@ fn compare(seed: u64, count: u64) -> u64 {
 
     let all = [adpcm, places, resample, leaves];
     let (n, m) = all.iter().fold((0, 0), |(n, m), t| (n + t.compared, m + t.differ));
+    let none = [three, third, elsewhere, unanswered, by_rule].contains(&0);
+    if none {
+        println!("never reached: a resample of three samples, or one that shows its fourth point");
+    }
     println!("{n} compared, {m} differ");
-    m
+    m == 0 && !none
 }
 
 fn hex(words: &[u32]) -> String {
@@ -307,7 +269,7 @@ fn main() {
         return;
     }
     let number = |k: usize, d| args.get(k).map_or(d, |a| a.parse().expect("a number"));
-    if compare(number(0, 1), number(1, 1_000_000)) != 0 {
+    if !compare(number(0, 1), number(1, 1_000_000)) {
         std::process::exit(1);
     }
 }
