@@ -1,9 +1,9 @@
-//! Holds the port to the oracle that follows document 02's rules: an empty update leaves the state alone and tells the positions. Nothing
-//! is left out.
+//! Holds the port to the oracle that follows document 02's rules: an empty update leaves the state alone and tells the positions; where a
+//! voice needs no new sample, the fourth point of the cubic is 2 × third - second. Nothing is left out.
 //!
 //! `rules [SEED [COUNT]]` compares COUNT sessions of each mode, with empty updates and inputs of 1 to 63 bytes among their calls; then
-//! 5 × COUNT such updates from any whole state, since no session has a fresh voice with a position. It fails where a case of the rule was
-//! never reached.
+//! 5 × COUNT such updates from any whole state, since no session has a fresh voice with a position, and 5 × COUNT renders from any whole
+//! state. It fails where a case of a rule was never reached.
 //! `rules program SEED COUNT FOLDER [empty]` writes inputs of the session program, every third of them damaged, with what it must print for
 //! each; with `empty`, empty updates are among the calls, and it fails if there are none.
 mod both;
@@ -11,6 +11,7 @@ mod desk;
 mod empty;
 mod generate;
 mod inputs;
+mod lively;
 mod modes;
 mod port;
 mod programs;
@@ -20,14 +21,16 @@ mod sessions;
 mod title;
 use both::Judge;
 use empty::Reached;
-use generate::state;
+use generate::{BASE, state};
+use lively::lively;
 use modes::{MODES, asking, short};
+use oracle::Memory;
 use oracle::renderer::Probe;
-use port::{place, places, seen, unchanged};
+use port::{all, place, places, seen, unchanged};
 use random::Random;
 
 /// Updates from any whole state, three of four empty and one of 1 to 63 bytes: what they reached, and how many differ.
-fn single(r: &mut Random, count: u64) -> (Reached, u64) {
+fn updates(r: &mut Random, count: u64) -> (Reached, u64) {
     let (mut reached, mut differ) = (Reached::default(), 0);
     for k in 0..count {
         let before = state(r, 2000);
@@ -52,6 +55,37 @@ fn single(r: &mut Random, count: u64) -> (Reached, u64) {
     (reached, differ)
 }
 
+/// Renders from any whole state: how many came to the rule for a fourth point, how many of these have a frame that isn't 0, and how many of
+/// all differ.
+fn renders(r: &mut Random, count: u64) -> (u64, u64, u64) {
+    let (mut still, mut sounding, mut differ) = (0, 0, 0);
+    for k in 0..count {
+        let before = lively(r, 2000);
+        let memory = r.bytes(2000);
+        let oracle = Probe::restore(&before);
+        oracle::take_rounds();
+        let frames: Vec<f32> = oracle.render(&Memory { base: BASE, bytes: &memory }).into_iter().flatten().collect();
+        let (rounds, by_rule) = (oracle::take_rounds(), oracle::take_fourths() > 0);
+        let (mut after, mut out) = (before.clone(), vec![0.25; frames.len()]);
+        let answer = port::render(&mut after, BASE, &memory, &mut out);
+        let heard = (answer.number, u64::from(answer.rounds)) == (0, rounds) && all(&out) == all(&frames);
+        if !heard || seen(&after) != seen(&oracle.slices()) {
+            differ += 1;
+            if differ < 4 {
+                println!("differs: render {k}: answer {answer:?}, rounds {rounds}, frames at {:?}", place(&all(&out), &all(&frames)));
+                println!("  {}", places(&after, &oracle.slices()));
+            }
+        }
+        still += u64::from(by_rule);
+        sounding += u64::from(by_rule && frames.iter().any(|&x| x != 0.0));
+    }
+    (still, sounding, differ)
+}
+
+fn least(counts: &[u64]) -> u64 {
+    counts.iter().copied().min().unwrap_or(0)
+}
+
 fn main() {
     let args: Vec<String> = std::env::args().skip(1).collect();
     let number = |k: usize, d: u64| args.get(k).map_or(d, |a| a.parse().expect("a number"));
@@ -64,12 +98,17 @@ fn main() {
     let (seed, count) = (number(0, 1), number(1, 2_000));
     let total = sessions::compare(seed, count, &MODES, Judge::Rules, asking);
     let in_sessions = oracle::take_empty();
-    let (reached, differ) = single(&mut Random(seed), 5 * count);
+    let voices = oracle::take_still();
+    let (reached, differ) = updates(&mut Random(seed), 5 * count);
     let in_single = oracle::take_empty();
+    let (still, still_sounding, render_differ) = renders(&mut Random(seed), 5 * count);
     let s = &total.reached;
     println!("sessions: {s}; {} more refused by 6; {} inputs of 1 to 63 bytes with a voice in use", total.empty_refused, s.short);
     println!("any whole state: {reached}; {} inputs of 1 to 63 bytes with a voice in use", reached.short);
     println!("the oracle's rule: run and telling a position that isn't 0 in sessions {in_sessions:?}, from any whole state {in_single:?}");
+    println!("renders by the rule for a fourth point: in sessions {}, {} with a frame that isn't 0;", total.still, total.still_sounding);
+    println!("  from any whole state {still} of {}, {still_sounding} with a frame that isn't 0", 5 * count);
+    println!("  voices by it in sessions: 16-bit, float, ADPCM, silent {:?}; of 1 to 6 channels {:?}", voices.formats, voices.channels);
     let counts = [
         ("an empty update in a session", s.empty.min(in_sessions[0])),
         ("a position that isn't 0 in a session", s.told.min(in_sessions[1])),
@@ -82,13 +121,19 @@ fn main() {
         ("a fresh voice with a position", reached.fresh_moved),
         ("an unused voice with a position", reached.unused_moved),
         ("an input of 1 to 63 bytes", reached.short),
+        ("a render by the rule for a fourth point in the mode slowed", total.still_slowed),
+        ("a render by it in a session, with a frame that isn't 0", total.still_sounding),
+        ("a voice by it of each format", least(&voices.formats)),
+        ("a voice by it of each number of channels", least(&voices.channels)),
+        ("a render by it from any whole state", still),
+        ("a render by it from any whole state, with a frame that isn't 0", still_sounding),
     ];
     let never: Vec<&str> = counts.iter().filter(|c| c.1 == 0).map(|c| c.0).collect();
     for what in &never {
         println!("never reached: {what}");
     }
-    let differ = total.differ + differ;
-    println!("{} compared, {differ} differ", total.compared + 5 * count);
+    let differ = total.differ + differ + render_differ;
+    println!("{} compared, {differ} differ", total.compared + 10 * count);
     if differ != 0 || !never.is_empty() {
         std::process::exit(1);
     }
