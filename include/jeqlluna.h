@@ -25,10 +25,10 @@
 extern "C" {
 #endif
 
-#define JEQLLUNA_VERSION "0.4.1"
+#define JEQLLUNA_VERSION "0.5.0"
 #define JEQLLUNA_VERSION_MAJOR 0
-#define JEQLLUNA_VERSION_MINOR 4
-#define JEQLLUNA_VERSION_PATCH 1
+#define JEQLLUNA_VERSION_MINOR 5
+#define JEQLLUNA_VERSION_PATCH 0
 
 /* The bytes of stack that a call takes at most; measured, and held to by bindings/stack. */
 #define JEQLLUNA_STACK 134144
@@ -167,7 +167,8 @@ JeqllunaUpdate jeqlluna_update(
     uint32_t expected, const uint8_t *input, size_t input_len, uint8_t *reply, size_t reply_len);
 
 /* One render. memory holds the sample memory from the address base on. 2 * samples floats, left and right by turns, go to the front of
- * frames; floats beyond them stay. Each is in -1..1 or NaN. Refusals: 4, 5, 7. */
+ * frames; floats beyond them stay. Each is in -1..1 or NaN. A voice so slow that it needs no new sample is interpolated from its last
+ * three and a fourth, 2 * third - second. Refusals: 4, 5, 7. */
 JeqllunaRender jeqlluna_render(
     uint32_t *words, size_t words_len, uint64_t *longs, size_t longs_len, float *floats, size_t floats_len,
     uint16_t *contexts, size_t contexts_len, float *history, size_t history_len,

@@ -108,7 +108,8 @@ impl Renderer {
     }
 
     /// Renders from sample memory that stands at the address `base` to the front of `frames`, left and right by turns; floats beyond 2 ×
-    /// samples stay. Each frame is in -1..1 or NaN. Gives the rounds that the voices' fetches took. Refused by 5 and 7.
+    /// samples stay. Each frame is in -1..1 or NaN. A voice so slow that it needs no new sample is interpolated from its last three
+    /// and a fourth, 2 × third - second. Gives the rounds that the voices' fetches took. Refused by 5 and 7.
     pub fn render(&mut self, base: u64, memory: &[u8], frames: &mut [f32]) -> Result<u32, Refusal> {
         // SAFETY: each pointer and count are those of one slice; the six that are written are borrowed here alone.
         let r = mode::ordered(|| unsafe {

@@ -1,6 +1,6 @@
 //! Whole sessions through the crate.
-use super::title::{EXAMPLE, ONE_VOICE, held, title};
-use crate::Renderer;
+use super::title::{EXAMPLE, ONE_VOICE, held, put, title};
+use crate::{Parameters, Renderer};
 
 #[test]
 fn worked_example() {
@@ -29,6 +29,23 @@ fn a_voice_plays() {
     // The next reply tells that the voice, no longer new, has played 64 samples.
     let reply = r.update(0, &title(1.0, false), 4096).unwrap();
     assert_eq!(reply[0x80..0x88], 64u64.to_le_bytes());
+}
+
+/// Three samples a render, pitch 0.5 over the sample 100, then pitch 0. The second render needs no new sample: its points are 0, 0, 100 and
+/// then 200, and each of its outputs lies halfway between the second and the third.
+#[test]
+fn a_voice_is_slowed() {
+    const PITCH: usize = 0x40 + 0x70 + 0x1c;
+    let mut r = Renderer::open(&Parameters { samples: 3, ..ONE_VOICE }).unwrap();
+    for (fresh, pitch, rounds, outputs) in [(true, 0.5f32, 1, [0.0, -6.25, 0.0]), (false, 0.0, 0, [43.75; 3])] {
+        let mut input = title(1.0, fresh);
+        put(&mut input, PITCH, pitch.to_bits());
+        r.update(0, &input, 4096).unwrap();
+        let mut frames = [0.25; 6];
+        assert_eq!(r.render(0x10000, &[100, 0], &mut frames), Ok(rounds), "pitch {pitch}");
+        assert_eq!(frames.map(|x| x * 32768.0), outputs.map(|x| [x; 2]).as_flattened(), "pitch {pitch}");
+        assert_eq!(r.positions().unwrap()[0].played, 1, "pitch {pitch}");
+    }
 }
 
 #[test]
