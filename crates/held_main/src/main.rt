@@ -1,12 +1,8 @@
 // Held notes: where a render needs no new sample, the resampler has three points, and the fourth is 2 * third - second.
 // Printed are the output halfway between the second and the third of some points, and two renders of a voice that is slowed and held.
-ghost use mathlib.Core.Path.{_≡_};
-ghost use Rattle.plan.specs.Rounds.{hasTable};
-use plan::Source;
 use turn::Render;
-use turn::Turn;
+use voice::History;
 use voice::Play;
-use voice::Queue;
 use voice::Sound;
 use voice::Voice;
 use voice::WaveBuffer;
@@ -50,10 +46,10 @@ fn print_number(name: &[u8], x: f32) {
 }
 
 // A name and three numbers.
-fn print_three(name: &[u8], a: f32, b: f32, c: f32) {
-    print_number(name, a);
-    print_number(b" ", b);
-    print_number(b" ", c);
+fn print_three(name: &[u8], x: [f32; 3]) {
+    print_number(name, x[0]);
+    print_number(b" ", x[1]);
+    print_number(b" ", x[2]);
 }
 
 // The output halfway between the second and the third of three or four points.
@@ -71,16 +67,16 @@ fn print_halfway(points: &[f32]) {
 }
 
 // Three points and the output between them.
-fn print_of_three(a: f32, b: f32, c: f32) {
-    print_three(b"points ", a, b, c);
-    print_halfway(&[a, b, c]);
+fn print_of_three(points: [f32; 3]) {
+    print_three(b"points ", points);
+    print_halfway(&points);
 }
 
-// Four points and the output between them.
-fn print_of_four(a: f32, b: f32, c: f32, d: f32) {
-    print_three(b"points ", a, b, c);
-    print_number(b" ", d);
-    print_halfway(&[a, b, c, d]);
+// The same with a fourth point.
+fn print_of_four(points: [f32; 3], fourth: f32) {
+    print_three(b"points ", points);
+    print_number(b" ", fourth);
+    print_halfway(&[points[0], points[1], points[2], fourth]);
 }
 
 // A wave buffer of four 16-bit samples.
@@ -138,62 +134,21 @@ struct VoiceSound {
     sound: Sound,
 }
 
-// A turn, the history after it, and its outputs.
-fn print_turn(t: Turn, after: Sound, out: &[f32; 3]) {
-    let v = t.voice;
-    let history = after.history;
-    let h = history.samples;
-    print_number(b"pitch ", v.pitch);
-    print_count(b": needed ", t.needed as u64);
-    print_count(b", rounds ", t.plan.rounds as u64);
-    print_count(b", played ", v.played);
-    print_three(b", history ", h[0], h[1], h[2]);
-    print_number(b", fraction ", v.fraction);
-    print_three(b", outputs ", out[0], out[1], out[2]);
-    io::write_all(1, &[b'\n']);
+// What moved in a turn.
+fn print_moved(pitch: f32, needed: u32, rounds: u32, played: u64, fraction: f32) {
+    print_number(b"pitch ", pitch);
+    print_count(b": needed ", needed as u64);
+    print_count(b", rounds ", rounds as u64);
+    print_count(b", played ", played);
+    print_number(b", fraction ", fraction);
 }
 
-// The sound after a turn, with its outputs in out; the sound before it where a turn requires more.
-fn play(
-    q: Queue,
-    s: Source,
-    table: bool,
-    memory: &[u8],
-    before: Sound,
-    ratio: f32,
-    fraction: f32,
-    src: &mut [f32],
-    out: &mut [f32; 3],
-) -> Sound
-    requires { ⌜ table ≡ hasTable s ⌝ }
-{
-    if src.len() < 3 {
-        return before;
-    }
-    if src.len() > 16 {
-        return before;
-    }
-    if q.index > 3 {
-        return before;
-    }
-    if s.channels != 1 {
-        return before;
-    }
-    if s.size != memory.len() as u64 {
-        return before;
-    }
-    playing::play_channels(
-        q,
-        s,
-        table,
-        memory,
-        before,
-        ratio,
-        fraction,
-        OUTPUTS,
-        src,
-        out,
-    )
+// What is heard of a turn: the history after it and its outputs.
+fn print_heard(h: History, out: [f32; 3]) {
+    let samples = h.samples;
+    print_three(b", history ", [samples[0], samples[1], samples[2]]);
+    print_three(b", outputs ", out);
+    io::write_all(1, &[b'\n']);
 }
 
 // A render of a voice at a pitch, printed; where a turn requires more, nothing.
@@ -229,7 +184,7 @@ fn render(before: VoiceSound, pitch: f32, memory: &[u8]) -> VoiceSound {
     let q = voice::queue_of(v);
     let s = turn::source_of(v, r);
     let old = before.sound;
-    let sound = play(
+    let sound = playing::play_channels(
         q,
         s,
         t.plan.table,
@@ -237,18 +192,22 @@ fn render(before: VoiceSound, pitch: f32, memory: &[u8]) -> VoiceSound {
         old,
         t.ratio,
         t.fraction,
+        OUTPUTS,
         &mut src[..row],
         &mut out,
     );
-    print_turn(t, sound, &out);
     let voice = t.voice;
+    let history = sound.history;
+    print_moved(pitch, t.needed, t.plan.rounds, voice.played, voice.fraction);
+    print_heard(history, out);
     VoiceSound { voice, sound }
 }
 
 fn main() {
-    print_of_three(100.0, 200.0, 250.0);
-    print_of_four(100.0, 200.0, 250.0, 300.0);
-    print_of_four(100.0, 200.0, 250.0, 250.0);
+    let points = [100.0f32, 200.0, 250.0];
+    print_of_three(points);
+    print_of_four(points, 300.0);
+    print_of_four(points, 250.0);
     // The samples 100, 12345, -12345 and 32767.
     let memory = [0x64u8, 0x00, 0x39, 0x30, 0xc7, 0xcf, 0xff, 0x7f];
     let new = VoiceSound {
