@@ -184,7 +184,7 @@ fn compare(seed: u64, count: u64) -> bool {
     println!("adpcm_size and AdpcmContext::parse: {} calls; {} differ", places.compared, places.differ);
 
     let mut resample = Tally::default();
-    let (mut three, mut still, mut shown) = (0, 0, [0; 2]);
+    let (mut three, mut still, mut unanswered, mut shown) = (0, 0, 0, [0; 2]);
     for _ in 0..count.max(200_000) {
         let c = Resample::random(r);
         three += u64::from(c.three());
@@ -193,14 +193,15 @@ fn compare(seed: u64, count: u64) -> bool {
         }
         let oracle = c.oracle();
         still += u64::from(oracle.0 == 0);
+        unanswered += u64::from(oracle::take_no_answers() > 0);
         let what = || format!("resample {} inputs count {} ratio {} fraction {}", c.input.len(), c.count, c.ratio, c.fraction);
         resample.hold(what, c.port(), oracle);
     }
     println!("resample and needed: {} calls, of which three samples: {three}, needed 0: {still}; {} differ", resample.compared, resample.differ);
     let [third, elsewhere] = shown;
     println!("  of three samples {third} would differ with the third as fourth point, {elsewhere} with the point rounded elsewhere");
-    let (unanswered, by_rule) = (oracle::take_no_answers(), rules::take_fourths());
-    println!("  points at which the Rust has no answer: {unanswered}, and document 02's rule has one: {by_rule}");
+    let by_rule = rules::take_fourths();
+    println!("  without answer by the Rust: {unanswered}; by document 02's rule: {by_rule}");
 
     let mut leaves = Tally::default();
     for k in 0..count.max(1_000_000) {

@@ -36,7 +36,7 @@ impl Resample {
         self.input.len() == 3
     }
 
-    /// What it must give: the Rust's needed and next fraction, and the Rust's outputs, or those by document 02's rule.
+    /// What it must give: the Rust's needed and next fraction; the Rust's outputs, or of three inputs those by document 02's rule.
     pub fn oracle(&self) -> Resampled {
         let mut out = vec![FILL; self.room];
         let made = &mut out[..self.count as usize];

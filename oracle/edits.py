@@ -30,8 +30,13 @@ EDITS = {
 # Document 02's rules, which come after these edits.
 RULES = {
     "dsp.rs": [
-        # L4: where there is no fourth point, 2 × third - second, the product first; these points are counted.
-        (".unwrap_or_else(crate::no_answer)", ".unwrap_or_else(|| crate::fourth(2.0 * p2 - p1))"),
+        # L4: where there is no fourth point, 2 × third - second, the product first. Resamples with such a point are counted.
+        (".unwrap_or_else(crate::no_answer)", ".unwrap_or(2.0 * p2 - p1)"),
+        (
+            "    let end = fraction + ratio * out.len() as f32;\n",
+            "    if input.len() == HISTORY && !out.is_empty() {\n        crate::count_fourth();\n    }\n"
+            "    let end = fraction + ratio * out.len() as f32;\n",
+        ),
     ],
     "mixer.rs": [
         # Voices that come to L4's rule are counted by format and channels.

@@ -35,27 +35,25 @@ pub fn take_empty() -> [u64; 2] {
     EMPTY.replace([0; 2])
 }
 
-/// Stands where kirikae reads a fourth point of three, and panics. Counts that the Rust has no answer here, and gives what shows wherever
-/// it is taken for one.
+/// Stands where kirikae reads a fourth point of three, and panics: counts that the Rust has no answer, and gives what shows wherever it is
+/// taken for one.
 #[cold]
 pub fn no_answer() -> f32 {
     NO_ANSWERS.set(NO_ANSWERS.get() + 1);
     f32::NAN
 }
 
-/// The points without answer counted since the last call: none where the oracle follows document 02's rules.
+/// How often the Rust had no answer since the last call: never where the oracle follows document 02's rules.
 pub fn take_no_answers() -> u64 {
     NO_ANSWERS.replace(0)
 }
 
-/// Counts a fourth point that document 02's rule gives, and gives it back.
-#[cold]
-pub fn fourth(point: f32) -> f32 {
+/// Counts a resample whose fourth point is by document 02's rule.
+pub fn count_fourth() {
     FOURTHS.set(FOURTHS.get() + 1);
-    point
 }
 
-/// The fourth points counted since the last call: none where the oracle is the Rust alone.
+/// The resamples with such a point counted since the last call: none where the oracle is the Rust alone.
 pub fn take_fourths() -> u64 {
     FOURTHS.replace(0)
 }
@@ -70,7 +68,13 @@ pub struct Still {
 /// Counts a voice that is rendered without a new sample.
 pub fn count_still(format: u8, channels: usize) {
     let mut still = STILL.get();
-    still.formats[match format { 2 => 0, 5 => 1, 6 => 2, _ => 3 }] += 1;
+    let kind = match format {
+        2 => 0,
+        5 => 1,
+        6 => 2,
+        _ => 3,
+    };
+    still.formats[kind] += 1;
     still.channels[channels - 1] += 1;
     STILL.set(still);
 }

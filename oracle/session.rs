@@ -252,7 +252,7 @@ mod tests {
         }
         sink[..2].fill(1);
         sink[0x120] = 1;
-        // The frames times 32,768, the rounds and the fourth points by the rule. Both renders leave the voice alike.
+        // The frames times 32,768, the rounds and the resamples by the rule. Both renders leave the voice alike.
         let mut render = |input: &[u8]| {
             session.update(0, input, 0x1000).unwrap();
             let (frames, rounds) = session.render(0x10000, &memory, 6).unwrap();
@@ -263,7 +263,7 @@ mod tests {
         assert_eq!(render(&d), (vec![0.0, 0.0, -6.25, -6.25, 0.0, 0.0], 1, 0));
         put(&mut d, VOICE + 0x1c, 0f32.to_bits());
         (d[VOICE + 8], d[VOICE + 0x60 + 0x1a]) = (0, 1);
-        assert_eq!(render(&d), (vec![43.75; 6], 0, 3));
+        assert_eq!(render(&d), (vec![43.75; 6], 0, 1));
     }
 
     #[test]
