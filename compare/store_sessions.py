@@ -1,10 +1,10 @@
 #!/usr/bin/env python3
 """store_sessions.py DRIVER ORACLE: packs sessions, each after its 32-bit length, and what the oracle's session program prints for them, as
 the stored input and output of the program sessions_main. First come sessions that are refused by 1, 2 and 6 and have calls after the
-refusal; ORACLE, the oracle's session program, answers them. Of the sessions that DRIVER makes, each with the oracle's answer, it takes three
-that are refused, and then short ones that are heard, as many as the program has room for. Last come a session with empty updates and one
-with held notes, which ORACLE answers too. It fails if 1, 2, 6 or 10 is not among the answers, if the empty updates don't tell the positions
-that their session is made for, or if the held notes don't sound as document 02 has them."""
+refusal; ORACLE, the oracle's session program, answers them. Of the sessions that DRIVER makes, each with the oracle's answer, it takes
+three that are refused, and then short ones that are heard, as many as the program has room for. Last come a session with empty updates and
+one with held notes, which ORACLE answers too. It fails if 1, 2, 6 or 10 is not among the answers, if the empty updates don't tell the
+positions that their session is made for, or if the held notes don't sound as document 02 has them."""
 import glob
 import os
 import struct
