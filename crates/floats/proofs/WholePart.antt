@@ -13,7 +13,7 @@ use lib.Ieee.Exact.{HasValue}
 use lib.Ieee.Back.{round-whole, whole-unique}
 use borrow.Author.Tests.{ltb-true, ltb-false, lt-ltb, ne-eqb, eq-eqb}
 use Rattle.floats.specs.Defs.{floorOf, zero32}
-use Rattle.floats.specs.Whole.{neg-has}
+use Rattle.floats.specs.Whole.{int-value, neg-has}
 use Rattle.floats.specs.Unit.{minus-zero, floor-stays}
 
 -- ---- a number that is not whole moves
@@ -146,11 +146,6 @@ near-lt (inf true) h k = wrong h
 near-lt (inf false) h k = wrong k
 near-lt (fin false m e) h k = let l : m * up e / down e < 2 ^ 24 = whole-lt m e (ltb-true (m * up e * 1) (2 ^ 24 * down e) k) in omega arith
 near-lt (fin true m e) h k = omega arith
-
--- the number that is compared with x has a whole number's value
-pub int-value : (n : ℕ) → n ≤ 2 ^ 24 → HasValue (ofInt binary32 (pos n)) false n 1
-unfolding ofInt
-int-value n h = round-whole binary32 false n h
 
 pub near-stays : (x : Float) (n : ℕ) → n < 2 ^ 24 → eq (ofInt binary32 (pos n)) x ≡ true → x ≡ floorOf x
 near-stays x n l h = equal-whole (ofInt binary32 (pos n)) x false n (int-value n (le-of-lt l)) h

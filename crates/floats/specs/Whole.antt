@@ -5,7 +5,8 @@ use Prim.Native.Nat.{ℕ, zero, suc, _+_, _-_, _*_, _^_, _≤_, _<_}
 use native.Mathlib.Nat.{mul-one, mul-comm, mul-assoc, mul-left-comm, add-mul, mul-sub, mul-pos, zero-lt-suc, le-trans, mul-le-mul, le-refl, sub-self, zero-mul}
 use native.Mathlib.Omega.{arith}
 use lib.Dec.{T, ltb, lit≤, lit<}
-use lib.Ieee.{Float, nan, inf, fin, binary32, up, down, unlike, round, sum, add, sub, mul, neg, fits}
+use lib.IntN.{pos}
+use lib.Ieee.{Float, nan, inf, fin, binary32, up, down, unlike, round, sum, add, sub, mul, neg, ofInt, fits}
 use lib.Ieee.Fits.{down-pos, add-fits}
 use lib.Ieee.Exact.{HasValue}
 use lib.Ieee.Scale.{finite, round-same}
@@ -17,6 +18,11 @@ use Rattle.floats.specs.Defs.{zero32}
 pub round-at : (s : Bool) (n k c : ℕ) → 0 < c → k ≤ 2 ^ 24 → n ≡ k * c → HasValue (round binary32 s n c) s k 1
 round-at s n k c p l h =
     subst (λ (x : Float). HasValue x s k 1) (sym (round-same binary32 s n c k 1 p (lit< tt) (mul-one n ∙ h))) (round-whole binary32 s k l)
+
+-- a whole number as a float
+pub int-value : (n : ℕ) → n ≤ 2 ^ 24 → HasValue (ofInt binary32 (pos n)) false n 1
+unfolding ofInt
+int-value n h = round-whole binary32 false n h
 
 pub sub-mul : (b a c : ℕ) → (b - a) * c ≡ b * c - a * c
 sub-mul b a c = mul-comm (b - a) c ∙ mul-sub c b a ∙ ap (λ (z : ℕ). z - c * a) (mul-comm c b) ∙ ap (λ (z : ℕ). b * c - z) (mul-comm c a)

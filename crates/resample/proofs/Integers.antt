@@ -11,7 +11,7 @@ use lib.Ieee.{Float, binary32, round, sum, add, sub, mul, neg, fits, ofInt}
 use lib.Ieee.Fits.{ofInt-fits}
 use lib.Ieee.Exact.{HasValue}
 use lib.Ieee.Back.{round-whole, whole-unique}
-use Rattle.floats.specs.Whole.{round-at, sub-mul, mul-value, neg-has, common}
+use Rattle.floats.specs.Whole.{int-value, round-at, sub-mul, mul-value, neg-has, common}
 
 abbrev pub minus : ℤ → Bool
 minus (pos n) = false
@@ -23,7 +23,7 @@ IsInt x z = HasValue x (minus z) (natAbs z) 1
 
 pub ofInt-is : (z : ℤ) → natAbs z ≤ 2 ^ 24 → IsInt (ofInt binary32 z) z
 unfolding ofInt
-ofInt-is (pos n) l = round-whole binary32 false n l
+ofInt-is (pos n) l = int-value n l
 ofInt-is (negsuc n) l = round-whole binary32 true (suc n) l
 
 pub int-unique : (x : Float) (z : ℤ) → T (fits binary32 x) → natAbs z ≤ 2 ^ 24 → IsInt x z → x ≡ ofInt binary32 z

@@ -8,7 +8,7 @@ use native.Mathlib.Omega.{arith}
 use lib.Dec.{T, lit≤}
 use lib.Signed.{mag}
 use lib.IntN.{ℤ, pos, negsuc, natAbs, _+ℤ_, _-ℤ_, negℤ, negℤ-+ℤ, +ℤ-assoc, +ℤ-comm, +ℤ-idl, +ℤ-idr, +ℤ-invl, +ℤ-invr, +ℤ-negℤ-cancel}
-use lib.ListN.{replicate}
+use lib.ListN.{replicate, replicate-append-replicate}
 use lib.Ieee.{Float, nan, inf, fin, binary32, up, down, unlike, isNan, lt, le, add, sub, mul, neg, ofInt}
 use lib.Ieee.Exact.{HasValue}
 use lib.Ieee.Fits.{down-pos, ofInt-fits}
@@ -160,17 +160,15 @@ module _ (z : ℤ) (h : mag z < 2 ^ 15)
       ∙ cubic-level z (size-16 z h) (tAt k) (upto-finite (tAt k) 4097 (t-upto k l))
       (upto-finite (mul binary32 half (tAt k)) 4097 (mul-upto half (tAt k) 1 4097 (lit≤ tt) half-upto (t-upto k l)))
 
-  one-more : (n : ℕ) → replicate n held ++ (held ∷ []) ≡ replicate (suc n) held
-  one-more zero = refl
-  one-more (suc n) = ap (λ (y : List Float). held ∷ y) (one-more n)
-
   samples-level : (n : ℕ) → n ≤ 256 → samples points ratio fraction n ≡ replicate n held
   unfolding samples
   samples-level zero l = refl
   samples-level (suc n) l =
+      let e : n + 1 ≡ suc n = omega arith in
       ap (λ (y : List Float). y ++ (sampleAt points ratio fraction n ∷ [])) (samples-level n (omega arith))
       ∙ ap (λ (y : Float). replicate n held ++ (y ∷ [])) (sample-level n (omega arith))
-      ∙ one-more n
+      ∙ replicate-append-replicate n 1 held
+      ∙ ap (λ (k : ℕ). replicate k held) e
 
   -- The law.
   pub held-level : (n : ℕ) → n ≤ 256 → resampled (held ∷ held ∷ held ∷ []) ratio fraction n ≡ replicate n held

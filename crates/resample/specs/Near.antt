@@ -5,20 +5,15 @@ use Prim.Native.Nat.{ℕ, zero, suc, _+_, _*_, _/_, _^_, _≤_, _<_}
 use native.Mathlib.Nat.{mul-one, mul-right-comm, mul-pos, zero-lt-suc, le-of-mul-le-mul-right, lt-of-mul-lt-mul-right, lt-of-not-le, le-of-lt, le-of-eq, le-div-iff-mul-le, div-lt-iff-lt-mul}
 use native.Mathlib.Omega.{arith}
 use lib.Dec.{T, ltb, eqb, eqb→eq, ltb→lt}
-use lib.IntN.{ℤ, pos}
-use lib.Ieee.{Float, nan, inf, fin, binary32, up, down, lt, le, eq, level, isNan, sum, add, ofInt, toUnsigned}
+use lib.IntN.{ℤ}
+use lib.Ieee.{Float, nan, inf, fin, binary32, up, down, lt, le, eq, level, isNan, sum, add, toUnsigned}
 use lib.Ieee.Fits.{down-pos, and-l, and-r}
 use lib.Ieee.Exact.{HasValue}
-use lib.Ieee.Back.{round-whole}
 use borrow.Author.Tests.{ltb-true, ltb-false, le-ltb, lt-ltb, eq-eqb}
 use Rattle.floats.specs.Defs.{one, minOf}
 use Rattle.floats.specs.Whole.{common, round-at}
 
 -- ---- the whole numbers that are compared with
-
-pub int-value : (n : ℕ) → n ≤ 2 ^ 24 → HasValue (ofInt binary32 (pos n)) false n 1
-unfolding ofInt
-int-value n h = round-whole binary32 false n h
 
 pub next-value : (x : Float) (n : ℕ) → n < 2 ^ 24 → HasValue x false n 1 → HasValue (add binary32 x one) false (n + 1) 1
 unfolding sum

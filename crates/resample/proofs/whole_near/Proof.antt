@@ -8,7 +8,8 @@ use lib.IntN.{pos}
 use lib.Ieee.{Float, binary32, inFloat, ofInt, ofBits, add}
 use lib.Ieee.Exact.{HasValue}
 use Rattle.floats.specs.Defs.{one}
-use Rattle.resample.specs.Near.{int-value, next-value, from-le, from-not-lt, below-lt, whole-is}
+use Rattle.floats.specs.Whole.{int-value}
+use Rattle.resample.specs.Near.{next-value, from-le, from-not-lt, below-lt, whole-is}
 use Rattle.resample.proofs.whole_near.Statement.{statement}
 use Rattle.resample.proofs.whole_near.Tie as tie
 
