@@ -19,6 +19,7 @@ typedef struct {
     uint32_t format, rate, looped; /* looped: samples of the loop */
     float volume, gain;
     int flushes; /* updates of queue count 0, each of which flushes FLUSH or 1 of each voice, before one more render */
+    int cut;     /* memory is in two ranges that touch, apart in the slice, inside a frame in the middle of the loop, of PCM16 */
 } Desk;
 
 static void put16(uint8_t *at, uint32_t v) { at[0] = (uint8_t)v, at[1] = (uint8_t)(v >> 8); }
@@ -135,12 +136,18 @@ static void run(const Desk *d, const uint8_t *memory) {
     JeqllunaUpdate u = jeqlluna_update(STATE, 0, input, size, reply, 8192);
     double update = now() - t;
     check(u.number, d->name);
+    uint64_t ranges[6] = {BASE, 0, MEMORY}, place = 64 + d->looped * d->channels + 1;
+    size_t numbers = 3;
+    if (d->cut) {
+        ranges[2] = place, ranges[3] = BASE + place, ranges[4] = MEMORY / 2, ranges[5] = MEMORY / 2;
+        numbers = 6;
+    }
     static double times[RENDERS];
     float frames[512];
     uint32_t rounds = 0;
     for (int k = 0; k < RENDERS; k++) {
         t = now();
-        JeqllunaRender r = jeqlluna_render(STATE, BASE, memory, MEMORY, frames, 512);
+        JeqllunaRender r = jeqlluna_render(STATE, ranges, numbers, memory, MEMORY, frames, 512);
         times[k] = now() - t;
         check(r.number, d->name);
         rounds = r.rounds;
@@ -159,7 +166,7 @@ static void run(const Desk *d, const uint8_t *memory) {
             put_flush(records, d, 1, 0);
             check(jeqlluna_update(STATE, 0, input, size, reply, 8192).number, d->name);
             t = now();
-            JeqllunaRender r = jeqlluna_render(STATE, BASE, memory, MEMORY, frames, 512);
+            JeqllunaRender r = jeqlluna_render(STATE, ranges, numbers, memory, MEMORY, frames, 512);
             after[p % 2][p / 2] = now() - t;
             check(r.number, d->name);
         }
@@ -173,15 +180,18 @@ static void run(const Desk *d, const uint8_t *memory) {
 }
 
 int main(void) {
+    enum { PCM16 = JEQLLUNA_VOICE_FORMAT_PCM_INT16, ADPCM = JEQLLUNA_VOICE_FORMAT_ADPCM };
     static const Desk desks[] = {
-        {"one voice, PCM16, 240 samples", 240, 1, 1, 0, 6, 6, JEQLLUNA_VOICE_FORMAT_PCM_INT16, 48000, 40000, 1.0f, 0.5f, 0},
-        {"24 voices, PCM16, 240 samples", 240, 24, 1, 4, 10, 2, JEQLLUNA_VOICE_FORMAT_PCM_INT16, 48000, 40000, 1.0f, 0.5f, 0},
-        {"largest counts, PCM16 in step", 256, 64, 6, 31, 96, 3, JEQLLUNA_VOICE_FORMAT_PCM_INT16, 48000, 40000, 0.5f, 0.5f, 3922},
-        {"largest counts, ratio 16", 256, 64, 6, 31, 96, 3, JEQLLUNA_VOICE_FORMAT_PCM_INT16, 768000, 40000, 0.5f, 0.5f, 0},
-        {"largest counts, ADPCM at 44100 Hz", 256, 64, 6, 31, 96, 3, JEQLLUNA_VOICE_FORMAT_ADPCM, 44100, 40000, 0.5f, 0.5f, 0},
-        {"largest counts, 24 buffers a mix", 256, 64, 6, 3, 96, 24, JEQLLUNA_VOICE_FORMAT_PCM_INT16, 44100, 40000, 0.5f, 0.5f, 0},
-        {"the same, subnormal products", 256, 64, 6, 3, 96, 24, JEQLLUNA_VOICE_FORMAT_PCM_INT16, 44100, 40000, 0.5f, 1e-42f, 0},
-        {"largest counts, 64 rounds a voice", 256, 64, 6, 31, 96, 3, JEQLLUNA_VOICE_FORMAT_PCM_INT16, 48000, 1, 0.5f, 0.5f, 0},
+        {"one voice, PCM16, 240 samples", 240, 1, 1, 0, 6, 6, PCM16, 48000, 40000, 1.0f, 0.5f, 0, 0},
+        {"24 voices, PCM16, 240 samples", 240, 24, 1, 4, 10, 2, PCM16, 48000, 40000, 1.0f, 0.5f, 0, 0},
+        {"largest counts, PCM16 in step", 256, 64, 6, 31, 96, 3, PCM16, 48000, 40000, 0.5f, 0.5f, 3922, 0},
+        {"largest counts, ratio 16", 256, 64, 6, 31, 96, 3, PCM16, 768000, 40000, 0.5f, 0.5f, 0, 0},
+        {"largest counts, ADPCM at 44100 Hz", 256, 64, 6, 31, 96, 3, ADPCM, 44100, 40000, 0.5f, 0.5f, 0, 0},
+        {"largest counts, 24 buffers a mix", 256, 64, 6, 3, 96, 24, PCM16, 44100, 40000, 0.5f, 0.5f, 0, 0},
+        {"the same, subnormal products", 256, 64, 6, 3, 96, 24, PCM16, 44100, 40000, 0.5f, 1e-42f, 0, 0},
+        {"largest counts, 64 rounds a voice", 256, 64, 6, 31, 96, 3, PCM16, 48000, 1, 0.5f, 0.5f, 0, 0},
+        {"largest counts, PCM16 in step, each read across two ranges", 256, 64, 6, 31, 96, 3, PCM16, 48000, 256, 0.5f, 0.5f, 0, 1},
+        {"largest counts, ratio 16, each read across two ranges", 256, 64, 6, 31, 96, 3, PCM16, 768000, 4096, 0.5f, 0.5f, 0, 1},
     };
     uint8_t *memory = room(MEMORY);
     uint32_t seed = 1;

@@ -129,8 +129,9 @@ impl Both<'_> {
     /// The times of a render, ours and the Rust's; frames, rounds and state must be the same.
     fn render(&mut self, sounds: bool) -> [f64; 2] {
         let (name, memory) = (self.desk.name, Memory { base: BASE, bytes: self.memory });
+        let range = port::whole(BASE, self.memory);
         let mut frames = vec![0.0; 2 * self.desk.samples];
-        let (ours, r) = time(|| port::render(&mut self.s, BASE, black_box(self.memory), &mut frames));
+        let (ours, r) = time(|| port::render(&mut self.s, &range, black_box(self.memory), &mut frames));
         take_rounds();
         let (rust, theirs) = time(|| self.probe.render(black_box(&memory)));
         assert_eq!((r.number, u64::from(r.rounds)), (0, take_rounds()), "{name}: rounds differ");

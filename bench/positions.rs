@@ -36,7 +36,7 @@ fn ask(desk: &Desk, memory: &[u8]) {
     let (mut s, probe) = desk.open(memory.len());
     let mut frames = vec![0.0; 2 * desk.samples];
     for _ in 0..RENDERS {
-        assert_eq!(port::render(&mut s, BASE, memory, &mut frames).number, 0, "{}", desk.name);
+        assert_eq!(port::render(&mut s, &port::whole(BASE, memory), memory, &mut frames).number, 0, "{}", desk.name);
         probe.render(&Memory { base: BASE, bytes: memory });
     }
     let (mut reply, voices) = (vec![0; probe.reply_length(0)], desk.told());

@@ -8,6 +8,7 @@ mod inputs;
 mod port;
 #[path = "../compare/random.rs"]
 mod random;
+mod voices;
 use generate::BASE;
 use oracle::Memory;
 use oracle::mixer::probe::Slices;
@@ -15,10 +16,9 @@ use oracle::renderer::Probe;
 use random::{Random, bits};
 use std::hint::black_box;
 use std::time::Instant;
+use voices::{SAMPLES, Sound};
 
 const VOICES: usize = 24;
-const MIXES: usize = 5;
-const SAMPLES: usize = 240;
 
 /// What plays: PCM16, every fourth voice in stereo, or else every second voice in ADPCM; the voices' sample rates in turn.
 struct Desk {
@@ -28,49 +28,21 @@ struct Desk {
     adpcm: bool,
 }
 
-/// The state of a title with 24 voices that loop, four stereo sub-mixes, a final mix and a stereo sink.
+/// The state of a title with 24 voices that loop.
 fn state(desk: &Desk, memory: usize) -> Slices {
-    let revision = u32::from_le_bytes(*b"REV8");
-    let mut s = Slices {
-        words: vec![48000, SAMPLES as u32, 2 * MIXES as u32, MIXES as u32 - 1, VOICES as u32, 1, 0, 0, 0, revision],
-        longs: vec![0],
-        floats: vec![],
-        contexts: vec![0; VOICES * 3],
-        history: vec![0.0; VOICES * 18],
-    };
-    for v in 0..VOICES {
+    let sound = |v: usize| {
         let adpcm = desk.adpcm && v % 2 == 1;
-        let mut w = [0u32; 58];
-        let mut l = [0u64; 14];
-        w[0] = u32::from(desk.sounds);
-        w[3] = if adpcm { 6 } else { 2 };
-        w[4] = desk.rates[v % 3];
-        w[5] = if !adpcm && v % 4 == 0 { 2 } else { 1 };
-        w[6] = 1;
-        w[10] = (v % MIXES) as u32;
-        w[11] = u32::MAX;
-        w[12] = v as u32;
-        w[13] = ((v + 1) % VOICES) as u32;
-        w[18] = 1;
-        w[27] = 9000 + v as u32 * 100;
-        w[28] = 1;
-        w[30] = u32::MAX;
-        (l[0], l[2], l[3]) = (BASE, BASE + 64, memory as u64 - 64);
-        s.words.extend(w);
-        s.longs.extend(l);
-        s.floats.extend([1.0, 0.75, 0.75, 0.0]);
-    }
-    for _ in 0..VOICES {
-        s.floats.extend((0..48).map(|k| if k % 24 < 2 { 0.5 } else { 0.0 }));
-    }
-    for m in 0..MIXES {
-        s.words.extend([1, 2, if m == 0 { 0x7fff_ffff } else { 0 }, u32::MAX, 2 * m as u32]);
-        s.floats.push(if m == 0 { 1.0 } else { 0.9 });
-        s.floats.extend((0..576).map(|k| if k == 0 || k == 25 { 1.0 } else { 0.0 }));
-    }
-    s.words.extend([1, 1, 2, 0, 1, 0, 0, 0, 0, 0]);
-    s.floats.extend([0.0; 4]);
-    s
+        Sound {
+            format: if adpcm { 6 } else { 2 },
+            channels: if !adpcm && v % 4 == 0 { 2 } else { 1 },
+            rate: desk.rates[v % 3],
+            address: BASE + 64,
+            size: memory as u64 - 64,
+            samples: 9000 + v as u32 * 100,
+            context: 0,
+        }
+    };
+    voices::state(&(0..VOICES).map(sound).collect::<Vec<Sound>>(), desk.sounds)
 }
 
 /// The median over many runs, taken in turn, of port over Rust; each run is of so many calls.
@@ -91,10 +63,10 @@ fn ratio(name: &str, times: usize, mut port: impl FnMut(), mut rust: impl FnMut(
 
 /// Renders of both from the same state: 200 that must be the same, and then timed ones.
 fn renders(name: &str, times: usize, samples: usize, sounds: bool, mut s: Slices, probe: &Probe, memory: &[u8]) {
-    let mem = Memory { base: BASE, bytes: memory };
+    let (mem, range) = (Memory { base: BASE, bytes: memory }, port::whole(BASE, memory));
     let mut frames = vec![0.0; 2 * samples];
     for _ in 0..200 {
-        assert_eq!(port::render(&mut s, BASE, memory, &mut frames).number, 0, "{name}");
+        assert_eq!(port::render(&mut s, &range, memory, &mut frames).number, 0, "{name}");
         let theirs = probe.render(&mem);
         assert!(frames.iter().zip(theirs.as_flattened()).all(|(x, y)| bits(*x) == bits(*y)), "{name}: frames differ");
     }
@@ -103,7 +75,7 @@ fn renders(name: &str, times: usize, samples: usize, sounds: bool, mut s: Slices
         &format!("render, {name}"),
         times,
         || {
-            black_box(port::render(&mut s, BASE, black_box(memory), &mut frames));
+            black_box(port::render(&mut s, &range, black_box(memory), &mut frames));
         },
         || {
             black_box(probe.render(black_box(&mem)));
@@ -113,10 +85,7 @@ fn renders(name: &str, times: usize, samples: usize, sounds: bool, mut s: Slices
 
 fn main() {
     let r = &mut Random(7);
-    let mut memory = r.bytes(200_000);
-    for (k, c) in [0i16, 0, 2048, 0, 0, 1024, 1024, 512, 3000, -1200, 1536, 256, 1024, -256, 512, 0].into_iter().enumerate() {
-        memory[k * 2..][..2].copy_from_slice(&c.to_le_bytes());
-    }
+    let memory = voices::memory(r, 200_000);
     for desk in [
         Desk { name: "PCM16 and ADPCM at 48000, 44100 and 32000 Hz", sounds: true, rates: [48000, 44100, 32000], adpcm: true },
         Desk { name: "PCM16 at 48000 Hz", sounds: true, rates: [48000; 3], adpcm: false },

@@ -2,7 +2,9 @@
 use crate::empty::{self, Reached};
 use crate::modes::{Call, Open, Session};
 use crate::port::{self, Lengths, Render, Update, all, place, places, seen, unchanged};
+use crate::ranged::Ranged;
 use oracle::mixer::probe::Slices;
+use oracle::ranges::take_reads;
 use oracle::session::Session as Oracle;
 
 /// What is linked as the oracle: the Rust, which isn't given empty updates and has no answer to a render in which a voice needs no new
@@ -17,7 +19,8 @@ pub enum Judge {
 #[derive(Default)]
 pub struct Tally {
     pub opens: u64,
-    pub refused: [u64; 8],
+    /// Calls by their answer.
+    pub refused: [u64; 14],
     pub updates: u64,
     pub renders: u64,
     pub silent: u64,
@@ -30,6 +33,7 @@ pub struct Tally {
     /// Empty updates that are refused; `reached` counts those that succeed.
     pub empty_refused: u64,
     pub reached: Reached,
+    pub ranged: Ranged,
 }
 
 /// An open on both sides: what it begins, or nothing where it is refused.
@@ -70,8 +74,8 @@ fn open(o: &Open, t: &mut Tally) -> Result<Option<(Slices, Oracle)>, String> {
     }
 }
 
-/// A call on both sides.
-fn call(c: &Call, s: &mut Slices, oracle: &mut Oracle, judge: Judge, t: &mut Tally) -> Result<(), String> {
+/// A call on both sides. The title's memory stands at a base.
+fn call(c: &Call, base: u64, s: &mut Slices, oracle: &mut Oracle, judge: Judge, t: &mut Tally) -> Result<(), String> {
     let before = s.clone();
     let room = |needed: usize, spare: i64| (needed as i64 + spare).max(0) as usize;
     let (refusal, kept) = match c {
@@ -100,12 +104,14 @@ fn call(c: &Call, s: &mut Slices, oracle: &mut Oracle, judge: Judge, t: &mut Tal
             t.empty_refused += u64::from(should.number != 0 && input.is_empty());
             (should.number, input.is_empty())
         }
-        Call::Render { base, memory, spare } => {
+        Call::Render { ranges, memory, spare } => {
             t.renders += 1;
             let room = room(2 * oracle.samples(), *spare);
             let mut out = vec![0.25; room];
-            let answer = port::render(s, *base, memory, &mut out);
-            let result = oracle.render(*base, memory, room);
+            let answer = port::render(s, ranges, memory, &mut out);
+            let reasons = oracle.reasons(ranges, memory.len(), room);
+            let result = oracle.render(ranges, memory, room);
+            let reads = take_reads();
             let (frames, rounds) = result.as_ref().map_or((&[][..], 0), |(f, n)| (&f[..], *n));
             if result.is_ok() && frames.len() != 2 * oracle.samples() {
                 return Err(format!("the oracle gives {} floats", frames.len()));
@@ -119,6 +125,10 @@ fn call(c: &Call, s: &mut Slices, oracle: &mut Oracle, judge: Judge, t: &mut Tal
             let differs = if unanswered { None } else { place(&all(given), &all(frames)) };
             if answer != should || differs.is_some() || beyond.iter().any(|&x| x != 0.25) {
                 return Err(format!("render {answer:?}, not {should:?}; frames at {differs:?}"));
+            }
+            match &result {
+                Ok(_) => t.ranged.render(ranges, memory.len(), &reads, base),
+                Err(_) => t.ranged.refused(ranges, memory.len(), &reasons),
             }
             t.rounds += rounds;
             t.still += u64::from(unanswered || by_rule);
@@ -153,7 +163,7 @@ pub fn run(session: &Session, judge: Judge, t: &mut Tally) -> Result<(), (usize,
     }
     let (mut slices, mut oracle) = state.expect("the last open succeeds");
     for (k, c) in session.calls.iter().enumerate() {
-        call(c, &mut slices, &mut oracle, judge, t).map_err(|e| (k, e))?;
+        call(c, session.base, &mut slices, &mut oracle, judge, t).map_err(|e| (k, e))?;
     }
     Ok(())
 }

@@ -1,18 +1,21 @@
 //! Sessions by seed, in modes.
+use crate::cuts::END;
 use crate::generate::{BASE, parameters};
 use crate::inputs::{Sections, cut, damage, input};
+use crate::lends::{Lend, at_once, in_ranges, in_ranges_refused};
+use crate::port::whole;
 use crate::random::Random;
 use crate::refusals::{refused, refused_opens};
-use crate::title::Title;
+use crate::title::{SIZE, Title};
 use oracle::renderer::Probe;
 
-pub const MODES: [&str; 8] = ["played", "routes", "damaged", "random", "refused", "limits", "small", "slowed"];
+pub const MODES: [&str; 10] = ["played", "routes", "damaged", "random", "refused", "limits", "small", "slowed", "ranges", "ranges_refused"];
 
-/// A call. `spare` is how much longer, or shorter, the reply or frame slice is than what the call gives.
+/// A call. `spare` is how much longer, or shorter, the reply or frame slice is than what the call gives; `ranges` are three numbers each.
 #[derive(Clone)]
 pub enum Call {
     Update { expected: u32, input: Vec<u8>, spare: i64 },
-    Render { base: u64, memory: Vec<u8>, spare: i64 },
+    Render { ranges: Vec<u64>, memory: Vec<u8>, spare: i64 },
 }
 
 /// An open: the parameter bytes, and which state slice is how much too long or too short.
@@ -22,11 +25,12 @@ pub struct Open {
     pub off: [i64; 5],
 }
 
-/// Opens, of which the first that succeeds begins the session, and the calls after it.
+/// Opens, of which the first that succeeds begins the session, and the calls after it; and where the title's memory stands.
 #[derive(Clone)]
 pub struct Session {
     pub opens: Vec<Open>,
     pub calls: Vec<Call>,
+    pub base: u64,
 }
 
 /// The parameters' bytes; what `Params` does not read is filled with anything.
@@ -89,7 +93,12 @@ pub fn short(r: &mut Random) -> Vec<u8> {
 
 /// A title's calls: a few renders after each update.
 fn played(r: &mut Random, p: Vec<u32>, rewired: bool) -> Vec<Call> {
-    let mut title = Title::new(r, p);
+    let title = Title::new(r, p);
+    calls_of(r, title, rewired, at_once)
+}
+
+/// The calls of a title whose memory is lent in a way.
+fn calls_of(r: &mut Random, mut title: Title, rewired: bool, lend: Lend) -> Vec<Call> {
     let mut calls = Vec::new();
     let count = 2 + r.below(29) as usize;
     while calls.len() < count {
@@ -97,20 +106,20 @@ fn played(r: &mut Random, p: Vec<u32>, rewired: bool) -> Vec<Call> {
         if rewired && !calls.is_empty() {
             title.rewire(r);
         }
-        sent(r, &mut title, &mut calls);
+        sent(r, &mut title, &mut calls, lend);
     }
     calls.truncate(count);
     calls
 }
 
 /// A title's update and a few renders.
-fn sent(r: &mut Random, title: &mut Title, calls: &mut Vec<Call>) {
+fn sent(r: &mut Random, title: &mut Title, calls: &mut Vec<Call>, lend: Lend) {
     calls.push(Call::Update { expected: expected(r, &title.p), input: title.input(r), spare: r.below(3) as i64 });
     for _ in 0..r.below(4) {
         if r.below(3) == 0 {
             title.stream(r);
         }
-        calls.push(Call::Render { base: BASE, memory: title.memory.clone(), spare: r.below(3) as i64 });
+        calls.extend(lend(r, title));
     }
 }
 
@@ -129,7 +138,7 @@ fn slowed(r: &mut Random, p: Vec<u32>) -> Vec<Call> {
         if k >= normal {
             title.slow(r);
         }
-        sent(r, &mut title, &mut calls);
+        sent(r, &mut title, &mut calls, at_once);
     }
     calls
 }
@@ -149,12 +158,16 @@ fn damaged(r: &mut Random, calls: &mut [Call]) {
                 }
                 _ => {}
             },
-            Call::Render { base, memory, .. } => match r.below(6) {
-                0 => memory.truncate(r.below(memory.len() as u64 + 1) as usize),
-                1 => damage(r, memory),
-                2 => *base = [0, BASE - 8, BASE + 0x200, (1 << 63) - memory.len() as u64][r.below(4) as usize],
-                _ => {}
-            },
+            Call::Render { ranges, memory, .. } => {
+                let mut base = BASE;
+                match r.below(6) {
+                    0 => memory.truncate(r.below(memory.len() as u64 + 1) as usize),
+                    1 => damage(r, memory),
+                    2 => base = [0, BASE - 8, BASE + 0x200, (1 << 63) - memory.len() as u64][r.below(4) as usize],
+                    _ => {}
+                }
+                *ranges = whole(base, memory).to_vec();
+            }
         }
     }
 }
@@ -165,7 +178,8 @@ fn anything(r: &mut Random, p: &[u32]) -> Vec<Call> {
     (0..count)
         .map(|_| {
             if r.below(2) == 0 {
-                return Call::Render { base: if r.below(8) == 0 { r.next() >> 1 } else { BASE }, memory: r.bytes(size), spare: r.below(3) as i64 };
+                let (base, memory) = (if r.below(8) == 0 { r.next() >> 1 } else { BASE }, r.bytes(size));
+                return Call::Render { ranges: whole(base, &memory).to_vec(), memory, spare: r.below(3) as i64 };
             }
             let input = match r.below(8) {
                 0 => r.bytes(size),
@@ -195,7 +209,7 @@ pub fn session(r: &mut Random, mode: &str) -> Session {
         "random" if r.below(2) == 0 => parameters(r),
         _ => heard(r),
     };
-    let mut opens = Vec::new();
+    let (mut opens, mut base) = (Vec::new(), BASE);
     let calls = match mode {
         "random" => {
             let mut p = p.clone();
@@ -221,16 +235,22 @@ pub fn session(r: &mut Random, mode: &str) -> Session {
             played(r, p.clone(), rewired)
         }
         "slowed" => slowed(r, p.clone()),
+        "ranges" | "ranges_refused" => {
+            base = [BASE, BASE, BASE + 1, 0, 1 << 40, END - SIZE as u64][r.below(6) as usize];
+            let mut title = Title::new(r, p.clone());
+            title.base = base;
+            calls_of(r, title, false, if mode == "ranges" { in_ranges } else { in_ranges_refused })
+        }
         _ => played(r, p.clone(), mode == "routes"),
     };
     opens.push(Open { parameters: parameter_bytes(r, &p), off: [0; 5] });
-    Session { opens, calls }
+    Session { opens, calls, base }
 }
 
 /// A session in which an empty update comes after one call in five, one in eight of them refused for want of a byte, and bytes too few for
 /// a header after one call in forty.
 pub fn asking(r: &mut Random, mode: &str) -> Session {
-    let Session { opens, calls } = session(r, mode);
+    let Session { opens, calls, base } = session(r, mode);
     let p = Probe::parameters(&opens[opens.len() - 1].parameters);
     let mut out = Vec::new();
     for call in calls {
@@ -243,5 +263,5 @@ pub fn asking(r: &mut Random, mode: &str) -> Session {
             out.push(Call::Update { expected: expected(r, &p), input: short(r), spare: 0 });
         }
     }
-    Session { opens, calls: out }
+    Session { opens, calls: out, base }
 }

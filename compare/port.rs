@@ -33,12 +33,19 @@ pub fn update(s: &mut Slices, expected: u32, input: &[u8], reply: &mut [u8]) -> 
     }
 }
 
-pub fn render(s: &mut Slices, base: u64, memory: &[u8], frames: &mut [f32]) -> Render {
+/// The numbers of one range: all of a slice, from an address on.
+#[allow(dead_code)]
+pub fn whole(base: u64, memory: &[u8]) -> [u64; 3] {
+    [base, 0, memory.len() as u64]
+}
+
+/// A render with sample memory in ranges, three numbers each.
+pub fn render(s: &mut Slices, ranges: &[u64], memory: &[u8], frames: &mut [f32]) -> Render {
     unsafe {
         jeqlluna_render(
             s.words.as_mut_ptr(), s.words.len(), s.longs.as_mut_ptr(), s.longs.len(), s.floats.as_mut_ptr(), s.floats.len(),
-            s.contexts.as_mut_ptr(), s.contexts.len(), s.history.as_mut_ptr(), s.history.len(), base, memory.as_ptr(), memory.len(),
-            frames.as_mut_ptr(), frames.len(),
+            s.contexts.as_mut_ptr(), s.contexts.len(), s.history.as_mut_ptr(), s.history.len(), ranges.as_ptr(), ranges.len(),
+            memory.as_ptr(), memory.len(), frames.as_mut_ptr(), frames.len(),
         )
     }
 }

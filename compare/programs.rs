@@ -5,7 +5,7 @@ use crate::random::Random;
 
 /// A session as the session program's input, with the first render's memory, and as many of its calls as 65,536 bytes hold; it may then be
 /// damaged. Also how many of these calls are empty updates.
-fn program(r: &mut Random, damaged: bool, Session { opens, mut calls }: Session) -> (Vec<u8>, usize) {
+fn program(r: &mut Random, damaged: bool, Session { opens, mut calls, .. }: Session) -> (Vec<u8>, usize) {
     let memory = calls.iter().find_map(|c| if let Call::Render { memory, .. } = c { Some(memory.clone()) } else { None });
     let memory = memory.unwrap_or_default();
     let block = |d: &[u8]| [&(d.len() as u32).to_le_bytes()[..], d].concat();

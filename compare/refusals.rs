@@ -1,6 +1,7 @@
 //! Calls and opens that are refused, by seed.
 use crate::generate::BASE;
 use crate::modes::{Call, Open, parameter_bytes};
+use crate::port::whole;
 use crate::random::Random;
 
 /// Refused calls are put between the others, of the updates every fourth with an empty input.
@@ -16,13 +17,15 @@ pub fn refused(r: &mut Random, calls: Vec<Call>) -> Vec<Call> {
                         input.clear();
                     }
                 }
-                Call::Render { base, memory, spare } => {
+                Call::Render { ranges, memory, spare } => {
+                    let mut base = BASE;
                     if r.below(2) == 0 {
-                        *base = [(1 << 63) - memory.len() as u64 + 1, 1 << 63, u64::MAX - r.below(64), u64::MAX - memory.len() as u64 + 1][r.below(4) as usize];
+                        base = [(1 << 63) - memory.len() as u64 + 1, 1 << 63, u64::MAX - r.below(64), u64::MAX - memory.len() as u64 + 1][r.below(4) as usize];
                     }
-                    if *base == BASE || r.below(2) == 0 {
+                    if base == BASE || r.below(2) == 0 {
                         *spare = -1 - [0, 1, r.below(512) as i64][r.below(3) as usize];
                     }
+                    *ranges = whole(base, memory).to_vec();
                 }
             }
             out.push(no);

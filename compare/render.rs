@@ -13,14 +13,14 @@ use lively::lively;
 use oracle::mixer::probe::Slices;
 use oracle::renderer::Probe;
 use oracle::{Memory, take_no_answers, take_rounds};
-use port::{all, place, places, seen};
+use port::{all, place, places, seen, whole};
 use random::Random;
 
-/// The port's render: its number and rounds, the state after it and the frame slice, filled with 0.25 before.
+/// The port's render, with all of memory at a base: its number and rounds, the state after it and the frame slice, filled with 0.25 before.
 fn rendered(before: &Slices, base: u64, memory: &[u8], room: usize) -> (u32, u64, Slices, Vec<f32>) {
     let mut s = before.clone();
     let mut frames = vec![0.25; room];
-    let answer = port::render(&mut s, base, memory, &mut frames);
+    let answer = port::render(&mut s, &whole(base, memory), memory, &mut frames);
     (answer.number, u64::from(answer.rounds), s, frames)
 }
 

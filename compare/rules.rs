@@ -3,31 +3,39 @@
 //!
 //! `rules [SEED [COUNT]]` compares COUNT sessions of each mode, with empty updates and inputs of 1 to 63 bytes among their calls; then
 //! 5 × COUNT such updates from any whole state, since no session has a fresh voice with a position, and 5 × COUNT renders from any whole
-//! state. It fails where a case of a rule was never reached.
+//! state, every second with memory in ranges. It fails where a case of a rule was never reached.
 //! `rules program SEED COUNT FOLDER [empty]` writes inputs of the session program, every third of them damaged, with what it must print for
 //! each; with `empty`, empty updates are among the calls, and it fails if there are none.
 mod both;
+mod cuts;
 mod desk;
 mod empty;
 mod generate;
 mod inputs;
+mod lends;
 mod lively;
 mod modes;
 mod port;
 mod programs;
 mod random;
+mod ranged;
 mod refusals;
 mod sessions;
+mod spoils;
 mod title;
 use both::Judge;
+use cuts::{Cut, cut, numbers};
 use empty::Reached;
 use generate::{BASE, state};
 use lively::lively;
 use modes::{MODES, asking, short};
 use oracle::Memory;
+use oracle::mixer::Mem;
+use oracle::ranges::{Ranges, parse, take_reads};
 use oracle::renderer::Probe;
 use port::{all, place, places, seen, unchanged};
 use random::Random;
+use ranged::Ranged;
 
 /// Updates from any whole state, three of four empty and one of 1 to 63 bytes: what they reached, and how many differ.
 fn updates(r: &mut Random, count: u64) -> (Reached, u64) {
@@ -55,31 +63,44 @@ fn updates(r: &mut Random, count: u64) -> (Reached, u64) {
     (reached, differ)
 }
 
-/// Renders from any whole state: how many came to the rule for a fourth point, how many of these have a frame that isn't 0, and how many of
-/// all differ.
-fn renders(r: &mut Random, count: u64) -> (u64, u64, u64) {
-    let (mut still, mut sounding, mut differ) = (0, 0, 0);
+/// What renders from any whole state came to.
+#[derive(Default)]
+struct Renders {
+    /// Those by the rule for a fourth point, and those of them with a frame that isn't 0.
+    still: u64,
+    sounding: u64,
+    ranged: Ranged,
+    differ: u64,
+}
+
+/// Renders from any whole state, every second with memory in ranges.
+fn renders(r: &mut Random, count: u64) -> Renders {
+    let mut t = Renders::default();
     for k in 0..count {
         let before = lively(r, 2000);
-        let memory = r.bytes(2000);
+        let (whole, memory) = (k % 2 == 0, r.bytes(2000));
+        let cut = if whole { Cut { ranges: parse(&port::whole(BASE, &memory)), slice: memory } } else { cut(r, BASE, &memory, &[0..2000]) };
+        let (numbers, bytes) = (numbers(r, &cut.ranges), &cut.slice);
+        let mem: &dyn Mem = if whole { &Memory { base: BASE, bytes } } else { &Ranges { ranges: &cut.ranges, bytes } };
         let oracle = Probe::restore(&before);
         oracle::take_rounds();
-        let frames: Vec<f32> = oracle.render(&Memory { base: BASE, bytes: &memory }).into_iter().flatten().collect();
+        let frames: Vec<f32> = oracle.render(mem).into_iter().flatten().collect();
         let (rounds, by_rule) = (oracle::take_rounds(), oracle::take_fourths() > 0);
         let (mut after, mut out) = (before.clone(), vec![0.25; frames.len()]);
-        let answer = port::render(&mut after, BASE, &memory, &mut out);
+        let answer = port::render(&mut after, &numbers, bytes, &mut out);
         let heard = (answer.number, u64::from(answer.rounds)) == (0, rounds) && all(&out) == all(&frames);
         if !heard || seen(&after) != seen(&oracle.slices()) {
-            differ += 1;
-            if differ < 4 {
+            t.differ += 1;
+            if t.differ < 4 {
                 println!("differs: render {k}: answer {answer:?}, rounds {rounds}, frames at {:?}", place(&all(&out), &all(&frames)));
                 println!("  {}", places(&after, &oracle.slices()));
             }
         }
-        still += u64::from(by_rule);
-        sounding += u64::from(by_rule && frames.iter().any(|&x| x != 0.0));
+        t.still += u64::from(by_rule);
+        t.sounding += u64::from(by_rule && frames.iter().any(|&x| x != 0.0));
+        t.ranged.render(&numbers, bytes.len(), &take_reads(), BASE);
     }
-    (still, sounding, differ)
+    t
 }
 
 fn least(counts: &[u64]) -> u64 {
@@ -101,14 +122,16 @@ fn main() {
     let voices = oracle::take_still();
     let (reached, differ) = updates(&mut Random(seed), 5 * count);
     let in_single = oracle::take_empty();
-    let (still, still_sounding, render_differ) = renders(&mut Random(seed), 5 * count);
+    let rendered = renders(&mut Random(seed), 5 * count);
     let s = &total.reached;
     println!("sessions: {s}; {} more refused by 6; {} inputs of 1 to 63 bytes with a voice in use", total.empty_refused, s.short);
     println!("any whole state: {reached}; {} inputs of 1 to 63 bytes with a voice in use", reached.short);
     println!("the oracle's rule: run and telling a position that isn't 0 in sessions {in_sessions:?}, from any whole state {in_single:?}");
     println!("renders by the rule for a fourth point: in sessions {}, {} with a frame that isn't 0;", total.still, total.still_sounding);
-    println!("  from any whole state {still} of {}, {still_sounding} with a frame that isn't 0", 5 * count);
+    println!("  from any whole state {} of {}, {} with a frame that isn't 0", rendered.still, 5 * count, rendered.sounding);
     println!("  voices by it in sessions: 16-bit, float, ADPCM, silent {:?}; of 1 to 6 channels {:?}", voices.formats, voices.channels);
+    let (crossed, gapped) = rendered.ranged.across();
+    println!("reads in renders from any whole state: {crossed} across ranges, {gapped} with a gap");
     let counts = [
         ("an empty update in a session", s.empty.min(in_sessions[0])),
         ("a position that isn't 0 in a session", s.told.min(in_sessions[1])),
@@ -125,14 +148,17 @@ fn main() {
         ("a render by it in a session, with a frame that isn't 0", total.still_sounding),
         ("a voice by it of each format", least(&voices.formats)),
         ("a voice by it of each number of channels", least(&voices.channels)),
-        ("a render by it from any whole state", still),
-        ("a render by it from any whole state, with a frame that isn't 0", still_sounding),
+        ("a render by it from any whole state", rendered.still),
+        ("a render by it from any whole state, with a frame that isn't 0", rendered.sounding),
+        ("a read across ranges from any whole state", crossed),
+        ("a read with a gap from any whole state", gapped),
     ];
-    let never: Vec<&str> = counts.iter().filter(|c| c.1 == 0).map(|c| c.0).collect();
+    let mut never: Vec<&str> = counts.iter().filter(|c| c.1 == 0).map(|c| c.0).collect();
+    never.extend(total.unranged.iter().map(String::as_str));
     for what in &never {
         println!("never reached: {what}");
     }
-    let differ = total.differ + differ + render_differ;
+    let differ = total.differ + differ + rendered.differ;
     println!("{} compared, {differ} differ", total.compared + 10 * count);
     if differ != 0 || !never.is_empty() {
         std::process::exit(1);

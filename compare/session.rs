@@ -4,18 +4,24 @@
 //! The Rust isn't given empty updates: those are held to compare/empty.rs. From 100 sessions of the mode `random` on, there must be some.
 //! It has no answer to a render in which a voice needs no new sample: of such a render all but the frames is compared; frames by the driver
 //! `rules`. From 100 sessions of the mode `slowed` on, there must be some.
+//! In the modes `ranges` and `ranges_refused` memory is in ranges, which the oracle reads byte by byte. They print which reads crossed
+//! ranges and which reasons refused a render; from 1,000 sessions on, none may be missing.
 mod both;
+mod cuts;
 mod desk;
 mod empty;
 #[allow(dead_code)]
 mod generate;
 mod inputs;
+mod lends;
 #[allow(dead_code)]
 mod modes;
 mod port;
 mod random;
+mod ranged;
 mod refusals;
 mod sessions;
+mod spoils;
 mod title;
 use both::Judge;
 use modes::{MODES, session};
@@ -30,7 +36,8 @@ fn main() {
     println!("without answer: {} renders, {} of them in the mode slowed", total.still, total.still_slowed);
     let asked = |mode| count >= 100 && wanted.contains(&mode);
     let counts = [("random", "an empty update", total.reached.empty), ("slowed", "a render without answer", total.still_slowed)];
-    let never: Vec<&str> = counts.iter().filter(|c| asked(c.0) && c.2 == 0).map(|c| c.1).collect();
+    let mut never: Vec<&str> = counts.iter().filter(|c| asked(c.0) && c.2 == 0).map(|c| c.1).collect();
+    never.extend(total.unranged.iter().filter(|_| count >= 1000).map(String::as_str));
     for what in &never {
         println!("never reached: {what}");
     }

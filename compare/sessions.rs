@@ -15,6 +15,8 @@ pub struct Total {
     pub still: u64,
     pub still_sounding: u64,
     pub still_slowed: u64,
+    /// What the modes with ranges should have reached and never did.
+    pub unranged: Vec<String>,
 }
 
 /// Leaves out calls as long as the session still differs.
@@ -41,7 +43,7 @@ fn print(session: &Session) {
                 let bytes: String = input.iter().map(|b| format!("{b:02x}")).collect();
                 println!("  update expected {expected:#x}, spare {spare}, input {bytes}");
             }
-            Call::Render { base, memory, spare } => println!("  render base {base:#x}, {:#x} bytes, spare {spare}", memory.len()),
+            Call::Render { ranges, memory, spare } => println!("  render ranges {ranges:x?}, {:#x} bytes, spare {spare}", memory.len()),
         }
     }
 }
@@ -69,14 +71,24 @@ pub fn compare(seed: u64, count: u64, modes: &[&str], judge: Judge, make: fn(&mu
                 }
             }
         }
-        let (calls, refused) = (t.updates + t.renders, [1, 2, 3, 5, 6, 7].map(|n| t.refused[n]));
+        let (calls, refused) = (t.updates + t.renders, [1, 2, 3, 5, 6, 7, 13].map(|n| t.refused[n]));
         let kinds = format!("{} updates, {} renders", t.updates, t.renders);
-        println!("{mode}: {count} sessions, {} opens, {calls} calls ({kinds}); refused by 1, 2, 3, 5, 6, 7: {refused:?}", t.opens);
+        println!("{mode}: {count} sessions, {} opens, {calls} calls ({kinds}); refused by 1, 2, 3, 5, 6, 7, 13: {refused:?}", t.opens);
         println!("  frames: {} silent, {} sounding, {} NaNs; {} rounds; {differing} differ", t.silent, t.sounding, t.nans, t.rounds);
         match judge {
             Judge::Rust => println!("  renders without answer, whose frames are not compared: {}", t.still),
             Judge::Rules => println!("  renders by the rule for a fourth point: {}, of which {} sound", t.still, t.still_sounding),
         }
+        let ranged = match *mode {
+            "ranges" => t.ranged.reads(),
+            "ranges_refused" => t.ranged.refusals(),
+            _ => vec![],
+        };
+        for line in ranged.chunks(3) {
+            let told: Vec<String> = line.iter().map(|(what, n)| format!("{what} {n}")).collect();
+            println!("  {}", told.join("; "));
+        }
+        total.unranged.extend(ranged.into_iter().filter(|(_, n)| *n == 0).map(|(what, _)| what));
         total.compared += calls + t.opens;
         total.differ += differing;
         total.empty_refused += t.empty_refused;

@@ -3,13 +3,18 @@ use crate::desk::Desk;
 use crate::generate::BASE;
 use crate::inputs::{Sections, put, put_u32};
 use crate::random::Random;
+use std::ops::Range;
 
 /// Sample memory: eight tables of coefficients, contexts, then sounds of 16-bit numbers, of floats and of ADPCM.
 const CONTEXTS: usize = 0x100;
 const INTEGERS: usize = 0x200;
 const FLOATS: usize = 0x1200;
 const ADPCM: usize = 0x2a00;
-const SIZE: usize = 0x3200;
+pub const SIZE: usize = 0x3200;
+
+/// What stands where in memory.
+pub const KINDS: [&str; 5] = ["coefficients", "context", "PCM16", "PCM float", "ADPCM data"];
+pub const PLACES: [Range<usize>; 5] = [0..CONTEXTS, CONTEXTS..INTEGERS, INTEGERS..FLOATS, FLOATS..ADPCM, ADPCM..SIZE];
 
 fn unit(r: &mut Random) -> f32 {
     r.below(0x20000) as f32 / 65536.0 - 1.0
@@ -49,6 +54,8 @@ struct Player {
 
 pub struct Title {
     pub p: Vec<u32>,
+    /// Where memory stands.
+    pub base: u64,
     pub memory: Vec<u8>,
     widened: bool,
     voices: Vec<Player>,
@@ -63,7 +70,7 @@ impl Title {
         let voices = (0..p[4]).map(|_| Player { record: vec![0; 0x170], next: 0 }).collect();
         let resources = (0..p[4]).map(|_| vec![0; 0x70]).collect();
         let desk = Desk::new(r, &p);
-        Title { p, memory, widened: false, voices, resources, desk }
+        Title { p, base: BASE, memory, widened: false, voices, resources, desk }
     }
 
     /// Float sounds of many magnitudes from now on, and most voices play them.
@@ -101,7 +108,7 @@ impl Title {
         put_u32(d, 0x18, channels);
         put_u32(d, 0x58, route.0);
         put_u32(d, 0x5c, route.1);
-        put(d, 0x48, &(BASE + r.below(8) * 32).to_le_bytes());
+        put(d, 0x48, &(self.base + r.below(8) * 32).to_le_bytes());
         for b in 0..4 {
             d[0x60 + b * 0x38 + 0x1a] = 1;
         }
@@ -147,7 +154,7 @@ impl Title {
             }
             _ => (INTEGERS as u64, r.below(0x400), 1 + r.below(most)),
         };
-        let (mut from, mut size, mut end, mut start) = (BASE + from, size, count, if r.below(3) == 0 { r.below(count) } else { 0 });
+        let (mut from, mut size, mut end, mut start) = (self.base + from, size, count, if r.below(3) == 0 { r.below(count) } else { 0 });
         // A loop inside the buffer; now and then one of any two places.
         let looped = start + r.below(count - start);
         let again = if r.below(8) == 0 { (r.below(count * 2), r.below(count * 2)) } else { (looped, looped + r.below(count - looped + 1)) };
@@ -172,7 +179,7 @@ impl Title {
         w[0x19] = u8::from(r.below(3) == 0);
         put_u32(&mut w, 0x1c, [-1i32, -1, 0, 1, 2, 5][r.below(6) as usize] as u32);
         if r.below(2) == 0 {
-            put(&mut w, 0x20, &(BASE + CONTEXTS as u64 + r.below(32) * 8).to_le_bytes());
+            put(&mut w, 0x20, &(self.base + CONTEXTS as u64 + r.below(32) * 8).to_le_bytes());
         }
         if r.below(2) == 0 {
             put_u32(&mut w, 0x30, again.0 as u32);

@@ -2,8 +2,9 @@
 //! update and a render through the C interface must answer 0 or 4 accordingly, and by 4 change nothing.
 //!
 //! `whole [SEED [COUNT]]` tries COUNT states: each clause broken alone and with each other one, and at the limits of what it allows, in the
-//! first, a middle and the last row; with memory, reply and frames that questions 5, 6 and 7 refuse, and without; updates with an empty
-//! input among them. It fails where a clause, a row, a pair or an answer was never hit, for which a COUNT below 200,000 may be too small.
+//! first, a middle and the last row; with ranges, memory, reply and frames that questions 13, 5, 6 and 7 refuse, and without; updates with
+//! an empty input among them. It fails where a clause, a row, a pair or an answer was never hit, for which a COUNT below 200,000 may be too
+//! small.
 //! `whole wrong` tries the list with one wrong entry, for many of them: each must be noticed.
 mod clauses;
 #[allow(dead_code)]
@@ -38,12 +39,12 @@ fn update(s: &mut State, expected: u32, input: &[u8], reply: &mut [u8]) -> Updat
 }
 
 /// The port's render on a state; frames are held as their bits.
-fn render(s: &mut State, base: u64, memory: &[u8], frames: &mut [u32]) -> Render {
+fn render(s: &mut State, ranges: &[u64], memory: &[u8], frames: &mut [u32]) -> Render {
     unsafe {
         jeqlluna_render(
             s.words.as_mut_ptr(), s.words.len(), s.longs.as_mut_ptr(), s.longs.len(), s.floats.as_mut_ptr().cast(), s.floats.len(),
-            s.contexts.as_mut_ptr(), s.contexts.len(), s.history.as_mut_ptr().cast(), s.history.len(), base, memory.as_ptr(), memory.len(),
-            frames.as_mut_ptr().cast(), frames.len(),
+            s.contexts.as_mut_ptr(), s.contexts.len(), s.history.as_mut_ptr().cast(), s.history.len(), ranges.as_ptr(), ranges.len(),
+            memory.as_ptr(), memory.len(), frames.as_mut_ptr().cast(), frames.len(),
         )
     }
 }
@@ -86,10 +87,10 @@ impl Run<'_> {
     }
 
     /// A refused render likewise.
-    fn no_render(&mut self, s: &State, found: u64, number: u32, base: u64, memory: &[u8], room: usize) {
+    fn no_render(&mut self, s: &State, found: u64, number: u32, ranges: &[u64], memory: &[u8], room: usize) {
         let mut frames = vec![0x7f80_5a5a; room];
         self.after.clone_from(s);
-        let a = render(&mut self.after, base, memory, &mut frames);
+        let a = render(&mut self.after, ranges, memory, &mut frames);
         let right = (a.number, a.rounds) == (number, 0) && self.kept(s) && frames.iter().all(|&x| x == 0x7f80_5a5a);
         self.tally.answers[number as usize] += 1;
         self.count(right, &format!("a render that should answer {number} answers {}", a.number), s, found);
@@ -110,43 +111,46 @@ impl Run<'_> {
     }
 
     /// A render that succeeds likewise.
-    fn yes_render(&mut self, s: &State, base: u64, memory: &[u8], room: usize) {
+    fn yes_render(&mut self, s: &State, ranges: &[u64], memory: &[u8], room: usize) {
         let mut frames = vec![0x7f80_5a5a; room];
         self.after.clone_from(s);
-        let a = render(&mut self.after, base, memory, &mut frames);
+        let a = render(&mut self.after, ranges, memory, &mut frames);
         let right = a.number == 0 && frames[frame_floats(s)..].iter().all(|&x| x == 0x7f80_5a5a) && broken(self.list, &self.after) == 0;
         self.tally.answers[0] += 1;
         self.count(right, &format!("a render of a whole state answers {}", a.number), s, 0);
     }
 
-    /// A state that the list says is broken: 4, whatever questions 5, 6 and 7 would say.
+    /// A state that the list says is broken: 4, whatever questions 13, 5, 6 and 7 would say.
     fn refused(&mut self, r: &mut Random, s: &State, found: u64) {
         let (input, memory) = (some_bytes(r, 80), some_bytes(r, 64));
         let frames = frame_floats(s);
-        let (far, short, less) = (r.below(4) == 0, r.below(4) == 0, r.below(4) == 0);
-        for (k, yes) in [far, short, less].into_iter().enumerate() {
+        let [far, short, less, astray] = [(); 4].map(|()| r.below(4) == 0);
+        for (k, yes) in [far, short, less, astray].into_iter().enumerate() {
             self.tally.before[k] += u64::from(yes);
         }
         self.no_update(s, found, 4, r.next() as u32, &input, if short { r.below(64) as usize } else { REPLY });
         let base = if far { far_base(r, memory.len()) } else { r.below(END - 64) };
         let room = if less { frames.saturating_sub(1 + r.below(3) as usize) } else { frames + r.below(3) as usize };
-        self.no_render(s, found, 4, base, &memory, room);
+        let ranges = if astray { not_laid(r, base, &memory) } else { whole(base, &memory) };
+        self.no_render(s, found, 4, &ranges, &memory, room);
     }
 
-    /// A state that the list says is whole: 0, or 5, 6 and 7 as these questions say.
+    /// A state that the list says is whole: 0, or 13, 5, 6 and 7 as these questions say.
     fn taken(&mut self, r: &mut Random, s: &State) {
         let (input, memory) = (some_bytes(r, 300), some_bytes(r, 64));
         let (expected, frames) = (r.below(0x2000) as u32, frame_floats(s));
         let size = self.yes_update(s, expected, &input, REPLY);
         let base = [0, 0x10000, END - memory.len() as u64][r.below(3) as usize];
-        self.yes_render(s, base, &memory, frames + r.below(3) as usize);
+        self.yes_render(s, &whole(base, &memory), &memory, frames + r.below(3) as usize);
         if r.below(4) == 0 && size > 0 {
             self.yes_update(s, expected, &input, size);
             self.no_update(s, 0, 6, expected, &input, [size - 1, 0, r.below(size as u64) as usize][r.below(3) as usize]);
             let short = frames.saturating_sub(1 + r.below(3) as usize);
-            self.no_render(s, 0, 7, base, &memory, short);
+            self.no_render(s, 0, 7, &whole(base, &memory), &memory, short);
             let far = far_base(r, memory.len());
-            self.no_render(s, 0, 5, far, &memory, if r.below(2) == 0 { short } else { frames });
+            self.no_render(s, 0, 5, &whole(far, &memory), &memory, if r.below(2) == 0 { short } else { frames });
+            let base = [base, far][r.below(2) as usize];
+            self.no_render(s, 0, 13, &not_laid(r, base, &memory), &memory, if r.below(2) == 0 { short } else { frames });
         }
     }
 
@@ -200,6 +204,21 @@ fn some_bytes(r: &mut Random, most: u64) -> Vec<u8> {
 /// A base from which so many bytes of memory reach past 2^63.
 fn far_base(r: &mut Random, length: usize) -> u64 {
     [END - length as u64 + 1, u64::MAX, END + 1 + r.below(END - 1), u64::MAX - length as u64][r.below(4) as usize]
+}
+
+/// The numbers of one range: all of memory at a base.
+fn whole(base: u64, memory: &[u8]) -> Vec<u64> {
+    vec![base, 0, memory.len() as u64]
+}
+
+/// Ranges that question 13 refuses, from a base on: 17 of them, a part outside memory, or a base below the end before it.
+fn not_laid(r: &mut Random, base: u64, memory: &[u8]) -> Vec<u64> {
+    let length = memory.len() as u64;
+    match r.below(3) {
+        0 => [base, length, 0].repeat(17),
+        1 => vec![base, 1, length],
+        _ => vec![base.max(1), 0, length, base.max(1).wrapping_add(length).saturating_sub(1), 0, 0],
+    }
 }
 
 /// Tries so many states by a list; with `first` up to the first difference.

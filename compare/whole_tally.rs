@@ -24,13 +24,13 @@ pub struct Tally {
     more: u64,
     largest: u64,
     /// Calls by the answer that they should give.
-    pub answers: [u64; 8],
+    pub answers: [u64; 14],
     /// Updates with an empty input likewise.
     pub empty: [u64; 8],
     /// Opens likewise.
     pub opens: [u64; 4],
-    /// Broken states tried with memory too far, a reply slice too short and frames too short.
-    pub before: [u64; 3],
+    /// Broken states tried with memory too far, a reply slice too short, frames too short and ranges that 13 refuses.
+    pub before: [u64; 4],
     pub compared: u64,
     pub differ: u64,
 }
@@ -39,8 +39,8 @@ impl Tally {
     /// Nothing counted yet, for so many clauses.
     pub fn new(n: usize) -> Tally {
         let clauses = vec![Counts::default(); n];
-        let (pair, answers, empty, opens) = (vec![0; n * n], [0; 8], [0; 8], [0; 4]);
-        Tally { clauses, pair, states: 0, whole: 0, more: 0, largest: 0, answers, empty, opens, before: [0; 3], compared: 0, differ: 0 }
+        let (pair, answers, empty, opens) = (vec![0; n * n], [0; 14], [0; 8], [0; 4]);
+        Tally { clauses, pair, states: 0, whole: 0, more: 0, largest: 0, answers, empty, opens, before: [0; 4], compared: 0, differ: 0 }
     }
 
     /// Counts a state by the clauses that it breaks, and by what was aimed at.
@@ -93,15 +93,16 @@ impl Tally {
         println!("pairs of clauses broken together and nothing else: {} of {}", hit.len(), hit.len() + missed.len());
         println!("{} states: {} whole, {} broken in more than two clauses", self.states, self.whole, self.more);
         println!("{} states have the largest counts", self.largest);
-        let [far, reply, frames] = self.before;
-        println!("of the broken ones with memory too far {far}, with a reply slice too short {reply}, with frames too short {frames}");
-        let [yes, _, _, _, four, five, six, seven] = self.answers;
-        println!("calls that should answer 0: {yes}, 4: {four}, 5: {five}, 6: {six}, 7: {seven}");
+        let [far, reply, frames, ranges] = self.before;
+        println!("of the broken ones with memory too far {far}, with a reply slice too short {reply}, with frames too short {frames},");
+        println!("  with ranges that 13 refuses {ranges}");
+        let [yes, four, five, six, seven, thirteen] = [0, 4, 5, 6, 7, 13].map(|n| self.answers[n]);
+        println!("calls that should answer 0: {yes}, 4: {four}, 5: {five}, 6: {six}, 7: {seven}, 13: {thirteen}");
         let [yes_empty, _, _, _, four_empty, _, six_empty, _] = self.empty;
         println!("of these, updates with an empty input that should answer 0: {yes_empty}, 4: {four_empty}, 6: {six_empty}");
         println!("opens that should answer 0 to 3: {:?}", self.opens);
-        let others = [yes, four, five, six, seven, far, reply, frames, self.largest, yes_empty, four_empty, six_empty];
-        if others.contains(&0) || self.opens.contains(&0) {
+        let others = [yes, four, five, six, seven, thirteen, far, reply, frames, ranges, self.largest];
+        if others.contains(&0) || [yes_empty, four_empty, six_empty].contains(&0) || self.opens.contains(&0) {
             never.push("an answer, or a refusal that comes after 4".into());
         }
         for name in &never {

@@ -21,6 +21,7 @@ static uint32_t words[WORDS], input[INPUT / 4] = {
     AT(WAVE, SENT_BEFORE + 2 * JEQLLUNA_WAVE_SIZE) = SENT, AT(WAVE, SENT_BEFORE + 3 * JEQLLUNA_WAVE_SIZE) = SENT,
     AT(MIX, BUFFER_COUNT) = 1, AT(MIX, IN_USE) = 1, AT(SINK, KIND) = DEVICE, AT(SINK, INPUT_COUNT) = 1};
 static uint64_t longs[LONGS], reply[128];
+static const uint64_t range[3] = {BASE, 0, 2 * CLIP}; /* at BASE: memory from its byte 0 on, as long as the clip */
 static uint16_t contexts[CONTEXTS], clip[CLIP] = {[BEAT] = 20000}; /* a click on the beat */
 static float floats[FLOATS], history[HISTORY], frames[2 * SAMPLES];
 #define STATE words, WORDS, longs, LONGS, floats, FLOATS, contexts, CONTEXTS, history, HISTORY
@@ -29,7 +30,7 @@ int main(void) {
     uint32_t error = jeqlluna_open((const uint8_t *)parameters, sizeof parameters, STATE);
     error = error ? error : jeqlluna_update(STATE, 0, (uint8_t *)input, sizeof input, (uint8_t *)reply, sizeof reply).number;
     for (int turn = 0; turn < 6 && !error; turn++) {
-        error = jeqlluna_render(STATE, BASE, (uint8_t *)clip, sizeof clip, frames, 2 * SAMPLES).number;
+        error = jeqlluna_render(STATE, range, 3, (uint8_t *)clip, sizeof clip, frames, 2 * SAMPLES).number;
     }
     error = error ? error : jeqlluna_update(STATE, 0, NULL, 0, (uint8_t *)reply, sizeof reply).number; /* the press */
     if (error) return printf("refused: %s\n", jeqlluna_refusal(error));

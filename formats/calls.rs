@@ -81,11 +81,13 @@ impl Renderer {
 
     pub fn render(&mut self, memory: &[u8], samples: usize) -> Answer {
         let mut frames = vec![0.0f32; 2 * samples];
+        let range = [BASE, 0, memory.len() as u64];
         let r = unsafe {
             sys::jeqlluna_render(
                 self.words.as_mut_ptr(), self.words.len(), self.longs.as_mut_ptr(), self.longs.len(),
                 self.floats.as_mut_ptr(), self.floats.len(), self.contexts.as_mut_ptr(), self.contexts.len(),
-                self.history.as_mut_ptr(), self.history.len(), BASE, memory.as_ptr(), memory.len(), frames.as_mut_ptr(), frames.len(),
+                self.history.as_mut_ptr(), self.history.len(), range.as_ptr(), range.len(), memory.as_ptr(), memory.len(),
+                frames.as_mut_ptr(), frames.len(),
             )
         };
         Answer { number: r.number, rounds: r.rounds, bits: frames.iter().map(|x| x.to_bits()).collect(), ..Answer::default() }

@@ -68,7 +68,7 @@ int main(void) {
 
     float frames[2 * SAMPLES];
     JeqllunaRender r = jeqlluna_render(
-        words, n.words, longs, n.longs, floats, n.floats, contexts, n.contexts, history, n.history, 0x10000, NULL, 0, frames, 2 * SAMPLES);
+        words, n.words, longs, n.longs, floats, n.floats, contexts, n.contexts, history, n.history, NULL, 0, NULL, 0, frames, 2 * SAMPLES);
     check(r.number);
     print_frames(frames);
 

@@ -25,13 +25,13 @@
 extern "C" {
 #endif
 
-#define JEQLLUNA_VERSION "0.5.0"
+#define JEQLLUNA_VERSION "0.6.0"
 #define JEQLLUNA_VERSION_MAJOR 0
-#define JEQLLUNA_VERSION_MINOR 5
+#define JEQLLUNA_VERSION_MINOR 6
 #define JEQLLUNA_VERSION_PATCH 0
 
 /* The bytes of stack that a call takes at most; measured, and held to by bindings/stack. */
-#define JEQLLUNA_STACK 134144
+#define JEQLLUNA_STACK 136192
 
 enum {
     JEQLLUNA_OK = 0,
@@ -39,14 +39,15 @@ enum {
     JEQLLUNA_COUNTS = 2,  /* another count of the parameters is too large */
     JEQLLUNA_LENGTHS = 3, /* the five slices are not as long as jeqlluna_lengths says */
     JEQLLUNA_STATE = 4,   /* the five slices hold no renderer */
-    JEQLLUNA_MEMORY = 5,  /* base + memory_len is above 2^63 */
+    JEQLLUNA_MEMORY = 5,  /* base + length of a range is above 2^63 */
     JEQLLUNA_REPLY = 6,   /* the reply slice is too short */
     JEQLLUNA_FRAMES = 7,  /* the frame slice is shorter than 2 * samples */
     JEQLLUNA_START = 8,   /* ADPCM: the start is above 2^60 */
     JEQLLUNA_OUTPUT = 9,  /* ADPCM: the output is shorter than count */
     /* 10 is the session program's and no answer of the library */
     JEQLLUNA_DSP_HEADER = 11, /* DSP file: fewer than 96 bytes, or format, gain or padding is not 0 */
-    JEQLLUNA_DSP_LENGTH = 12  /* DSP file: the data is too short for its samples, or the output for the file */
+    JEQLLUNA_DSP_LENGTH = 12, /* DSP file: the data is too short for its samples, or the output for the file */
+    JEQLLUNA_RANGES = 13 /* more than 16 ranges; a part outside memory; or a base below the end of the range before */
 };
 
 /* What a number says, in words. Never NULL. */
@@ -63,7 +64,7 @@ static inline const char *jeqlluna_refusal(uint32_t number) {
     case JEQLLUNA_STATE:
         return "the five slices hold no renderer";
     case JEQLLUNA_MEMORY:
-        return "sample memory ends above 2^63";
+        return "a range of sample memory ends above 2^63";
     case JEQLLUNA_REPLY:
         return "the reply slice is too short";
     case JEQLLUNA_FRAMES:
@@ -76,6 +77,8 @@ static inline const char *jeqlluna_refusal(uint32_t number) {
         return "a DSP file has no whole header, or format, gain or padding is not 0";
     case JEQLLUNA_DSP_LENGTH:
         return "the data of a DSP file is too short for its samples, or the output for the file";
+    case JEQLLUNA_RANGES:
+        return "there are more than 16 ranges, a part lies outside memory, or a base below the end of the range before";
     default:
         return "an unknown number";
     }
@@ -166,13 +169,19 @@ JeqllunaUpdate jeqlluna_update(
     uint16_t *contexts, size_t contexts_len, float *history, size_t history_len,
     uint32_t expected, const uint8_t *input, size_t input_len, uint8_t *reply, size_t reply_len);
 
-/* One render. memory holds the sample memory from the address base on. 2 * samples floats, left and right by turns, go to the front of
- * frames; floats beyond them stay. Each is in -1..1 or NaN. A voice so slow that it needs no new sample is interpolated from its last
- * three and a fourth, 2 * third - second. Refusals: 4, 5, 7. */
+/* One render. 2 * samples floats, left and right by turns, go to the front of frames; floats beyond them stay. Each is in -1..1 or NaN. A
+ * voice so slow that it needs no new sample is interpolated from its last three and a fourth, 2 * third - second.
+ *
+ * Sample memory is in ranges, 16 at most: three numbers each, base, start and length. The addresses base to base + length - 1 are the
+ * bytes of memory from start on. Ranges ascend and don't overlap in address: each base is at least base + length of the range before.
+ * Their parts of memory may stand in any sequence and overlap. A length may be 0. A read succeeds where each of its addresses lies in a
+ * range: it may cross ranges that touch, whether or not their parts do; a gap fails it. A read of 0 bytes succeeds. Where there is no
+ * range, sample memory has no bytes. ranges_len counts numbers; one or two left over are no range and are not read. All of memory from
+ * an address on is {address, 0, memory_len}. Refusals, in this sequence: 4, 13, 5, 7. */
 JeqllunaRender jeqlluna_render(
     uint32_t *words, size_t words_len, uint64_t *longs, size_t longs_len, float *floats, size_t floats_len,
     uint16_t *contexts, size_t contexts_len, float *history, size_t history_len,
-    uint64_t base, const uint8_t *memory, size_t memory_len, float *frames, size_t frames_len);
+    const uint64_t *ranges, size_t ranges_len, const uint8_t *memory, size_t memory_len, float *frames, size_t frames_len);
 
 /* The sub-mixes that a render runs, in their sequence. Refusal: 4. */
 JeqllunaOrder jeqlluna_mix_order(

@@ -1,6 +1,7 @@
 //! kirikae's audio renderer, as oracle/edits.py leaves it.
 pub mod dsp;
 pub mod mixer;
+pub mod ranges;
 pub mod renderer;
 pub mod session;
 
@@ -95,7 +96,7 @@ pub mod mem {
     }
 }
 
-/// Sample memory: one slice at a base. A read succeeds if it lies wholly inside, or takes no byte.
+/// Sample memory as document 01 has it: one slice at a base. A read succeeds if it lies wholly inside, or takes no byte.
 pub struct Memory<'a> {
     pub base: u64,
     pub bytes: &'a [u8],

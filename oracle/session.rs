@@ -1,5 +1,6 @@
 //! A session as docs/QUESTIONS.md has it. Its questions are answered here, since the Rust has none; everything else is the Rust's.
 use crate::mixer::probe::Slices;
+use crate::ranges::{Ranges, Reason, parse, reasons, whole};
 use crate::renderer::Probe;
 use crate::{Memory, take_rounds};
 
@@ -59,16 +60,24 @@ impl Session {
         Ok(self.renderer.update(input, expected as usize))
     }
 
-    /// A render with this much room for the frames: left and right by turns, and the rounds.
-    pub fn render(&mut self, base: u64, memory: &[u8], room: usize) -> Result<(Vec<f32>, u64), u32> {
-        if base.checked_add(memory.len() as u64).is_none_or(|end| end > 1 << 63) {
-            return Err(5);
-        }
-        if room < 2 * self.samples {
-            return Err(7);
+    /// All reasons to refuse a render with the ranges of these numbers, so many bytes of memory and so much room.
+    pub fn reasons(&self, numbers: &[u64], bytes: usize, room: usize) -> Vec<Reason> {
+        reasons(&parse(numbers), bytes, room, 2 * self.samples)
+    }
+
+    /// A render with the ranges of these numbers and this much room for the frames: left and right by turns, and the rounds. All of memory
+    /// at a base is read by document 01's stand-in.
+    pub fn render(&mut self, numbers: &[u64], memory: &[u8], room: usize) -> Result<(Vec<f32>, u64), u32> {
+        if let Some(reason) = self.reasons(numbers, memory.len(), room).first() {
+            return Err(reason.number());
         }
         take_rounds();
-        self.renderer.render_into(&Memory { base, bytes: memory }, &mut self.frames);
+        match parse(numbers)[..] {
+            [r] if (r.start, r.length) == (0, memory.len() as u64) => {
+                self.renderer.render_into(&Memory { base: r.base, bytes: memory }, &mut self.frames);
+            }
+            ref ranges => self.renderer.render_into(&Ranges { ranges, bytes: memory }, &mut self.frames),
+        }
         Ok((self.frames.iter().flatten().copied().collect(), take_rounds()))
     }
 }
@@ -126,7 +135,7 @@ fn run(input: &[u8], limits: bool, out: &mut String) -> Result<(), u32> {
     for call in calls {
         match call {
             Call::Render => {
-                let (frames, _) = session.render(0x10000, memory, 2 * session.samples)?;
+                let (frames, _) = session.render(&whole(0x10000, memory), memory, 2 * session.samples)?;
                 out.push_str(&format!("frames {}", session.samples));
                 for x in frames {
                     let bits = if x.is_nan() { 0x7fc0_0000 } else { x.to_bits() };
@@ -152,7 +161,7 @@ fn run(input: &[u8], limits: bool, out: &mut String) -> Result<(), u32> {
 
 #[cfg(test)]
 mod tests {
-    use super::{Session, lengths, program};
+    use super::{Session, lengths, program, whole};
 
     fn put(d: &mut [u8], at: usize, v: u32) {
         d[at..at + 4].copy_from_slice(&v.to_le_bytes());
@@ -255,7 +264,7 @@ mod tests {
         // The frames times 32,768, the rounds and the resamples by the rule. Both renders leave the voice alike.
         let mut render = |input: &[u8]| {
             session.update(0, input, 0x1000).unwrap();
-            let (frames, rounds) = session.render(0x10000, &memory, 6).unwrap();
+            let (frames, rounds) = session.render(&whole(0x10000, &memory), &memory, 6).unwrap();
             let s = session.slices();
             assert_eq!((s.longs[2], s.floats[3], &s.history[..3]), (1, 0.5, &[0.0, 0.0, 100.0][..]), "played, fraction, history");
             (frames.iter().map(|x| x * 32768.0).collect::<Vec<f32>>(), rounds, crate::take_fourths())

@@ -8,12 +8,14 @@
 #include <xmmintrin.h>
 
 #include "dsp.h"
+#include "ranges.h"
 #include "region.h"
 #include "title.h"
 
 #define REPLY 20000 /* the longest reply for which there is room */
 
 static long calls = 0;
+static long answers[JEQLLUNA_RANGES + 1]; /* of renders in any ranges, by number */
 
 static void hold(const char *what, int same) {
     calls++;
@@ -62,19 +64,36 @@ static void update(Desk *g, Desk *plain, const Counts *c, const uint8_t *title, 
     release(out);
 }
 
+/* Memory at once, cut into ranges that touch, or in any ranges, of which some are refused. */
 static void render(Desk *g, Desk *plain, const Counts *c, Region memory, const uint8_t *bytes, int at_end, uint64_t *seed) {
     float expected[512], *frames;
-    size_t n = 2 * c->samples - (below(seed, 16) == 0), size = below(seed, 8) == 0 ? below(seed, MEMORY + 1) : MEMORY;
-    Region out = region(sizeof expected);
+    uint64_t numbers[NUMBERS_MOST];
+    uint8_t slice[MEMORY];
+    uint32_t kind = below(seed, 3);
+    size_t n = 2 * c->samples - (below(seed, 16) == 0), size = below(seed, 8) == 0 ? below(seed, MEMORY + 1) : MEMORY, count = RANGE;
+    Region out = region(sizeof expected), by = region(sizeof numbers);
+    const uint64_t *ranges;
     JeqllunaRender a, b;
+    memcpy(slice, bytes, MEMORY);
+    put_range(numbers, BASE, 0, size);
+    if (kind == 1) {
+        size = MEMORY;
+        count = cut_memory(seed, bytes, slice, numbers);
+    } else if (kind == 2) {
+        count = put_ranges(seed, size, numbers);
+    }
+    ranges = (const uint64_t *)(const void *)lend(by, (const uint8_t *)numbers, count * sizeof *numbers, at_end);
     frames = (float *)(void *)place(out, n * sizeof *frames, at_end);
     memset(frames, 0x5a, n * sizeof *frames);
     memset(expected, 0x5a, sizeof expected);
-    a = desk_render(g, lend(memory, bytes, size, at_end), size, frames, n);
-    b = desk_render(plain, bytes, size, expected, n);
-    hold("render", a.number == b.number && a.rounds == b.rounds && a.number == (n < 2 * c->samples ? (uint32_t)JEQLLUNA_FRAMES : 0u));
+    a = desk_render_ranges(g, ranges, count, lend(memory, slice, size, at_end), size, frames, n);
+    b = desk_render_ranges(plain, numbers, count, slice, size, expected, n);
+    hold("render", a.number == b.number && a.rounds == b.rounds);
+    answers[kind == 2 ? a.number : 0]++;
+    hold("render", kind == 2 || a.number == (n < 2 * c->samples ? (uint32_t)JEQLLUNA_FRAMES : 0u));
     hold("frames", memcmp(frames, expected, n * sizeof *frames) == 0 && same_desks(g, plain));
     release(out);
+    release(by);
 }
 
 static void decode(int at_end, uint64_t *seed) {
@@ -199,6 +218,10 @@ int main(int argc, char **argv) {
         session(k == 0 ? &SMALL : k == 1 ? &MIDDLE : k == 2 ? &LARGEST : &c, 0, seed);
         session(k == 0 ? &SMALL : k == 1 ? &MIDDLE : k == 2 ? &LARGEST : &c, 1, seed);
     }
-    printf("%ld comparisons between guard pages\n", calls);
+    if (sessions >= 40 && (answers[JEQLLUNA_MEMORY] == 0 || answers[JEQLLUNA_FRAMES] == 0 || answers[JEQLLUNA_RANGES] == 0)) {
+        fail("no render in ranges is refused by 5, by 7 or by 13");
+    }
+    printf("%ld comparisons between guard pages; renders in ranges refused by 5, 7, 13: %ld, %ld, %ld\n", calls, answers[JEQLLUNA_MEMORY],
+           answers[JEQLLUNA_FRAMES], answers[JEQLLUNA_RANGES]);
     return 0;
 }

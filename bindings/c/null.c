@@ -74,11 +74,12 @@ static void short_slices(const Counts *counts) {
     close_desk(&before);
 }
 
-/* No input, no sample memory, no reply and no frames, each alone and together, for voices that play. */
+/* No input, no sample memory, no ranges, no reply and no frames, each alone and together, for voices that play. */
 static void calls_of(const Counts *counts) {
     static uint8_t reply[20000], other[20000];
     static float frames[512], others[512];
     const uint8_t some[1] = {0};
+    const uint64_t range[3] = {BASE, 0, 0}, longer[3] = {BASE, 0, 1};
     size_t size = title_size(counts);
     uint8_t *title = (uint8_t *)room(size);
     const Sound sound = {2, 1.0f, 0.5f};
@@ -94,10 +95,20 @@ static void calls_of(const Counts *counts) {
     hold("render without memory", desk_render(&a, NULL, 0, frames, 512).rounds, desk_render(&b, some, 0, others, 512).rounds);
     hold("frames", memcmp(frames, others, sizeof frames) == 0, 1);
     hold("state", same_desks(&a, &b), 1);
+    hold("render without ranges", desk_render_ranges(&a, NULL, 0, title, 64, frames, 512).rounds,
+         desk_render_ranges(&b, range, 0, title, 64, others, 512).rounds);
+    hold("frames", memcmp(frames, others, sizeof frames) == 0, 1);
+    hold("state", same_desks(&a, &b), 1);
+    hold("render with no range and no memory", desk_render_ranges(&a, NULL, 0, NULL, 0, frames, 512).rounds,
+         desk_render_ranges(&b, range, 3, NULL, 0, others, 512).rounds);
+    hold("frames", memcmp(frames, others, sizeof frames) == 0, 1);
+    hold("state", same_desks(&a, &b), 1);
+    hold("a range without memory", desk_render_ranges(&a, longer, 3, NULL, 0, frames, 512).number, JEQLLUNA_RANGES);
     hold("update without reply", desk_update(&a, 0, title, size, NULL, 0).number, JEQLLUNA_REPLY);
     hold("update without both", desk_update(&a, 0, NULL, 0, NULL, 0).number, JEQLLUNA_REPLY);
     hold("render without frames", desk_render(&a, title, 1, NULL, 0).number, JEQLLUNA_FRAMES);
     hold("render without both", desk_render(&a, NULL, 0, NULL, 0).number, JEQLLUNA_FRAMES);
+    hold("render without anything", desk_render_ranges(&a, NULL, 0, NULL, 0, NULL, 0).number, JEQLLUNA_FRAMES);
     hold("state", same_desks(&a, &b), 1);
     close_desk(&a);
     close_desk(&b);

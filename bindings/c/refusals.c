@@ -4,6 +4,7 @@
 #include <string.h>
 
 #include "dsp.h"
+#include "ranges.h"
 #include "title.h"
 
 static int answers = 0;
@@ -89,9 +90,10 @@ static void state_refused(void) {
     }
 }
 
-/* Memory, reply and frames, in the order in which they are asked. */
+/* Ranges, memory, reply and frames, in the order in which they are asked; bindings/c/ranges.c has each reason for 13. */
 static void rooms_refused(void) {
     uint8_t reply[1000], memory[16] = {0};
+    uint64_t range[RANGE];
     float frames[31];
     Desk d = open_desk(&MIDDLE), before = open_desk(&MIDDLE);
     JeqllunaUpdate u;
@@ -100,13 +102,14 @@ static void rooms_refused(void) {
     memset(frames, 0x5a, sizeof frames);
     u = desk_update(&d, 0xffffffff, NULL, 0, reply, sizeof reply);
     expect("update", u.number, JEQLLUNA_REPLY, u.size != 0 || !marked(reply, sizeof reply) || !same_desks(&d, &before));
-    r = jeqlluna_render(
-        d.words, d.n.words, d.longs, d.n.longs, d.floats, d.n.floats, d.contexts, d.n.contexts, d.history, d.n.history,
-        ((uint64_t)1 << 63) - 15, memory, 16, frames, 31);
+    put_range(range, ((uint64_t)1 << 63) - 15, 1, 16);
+    r = desk_render_ranges(&d, range, RANGE, memory, 16, frames, 31);
+    expect("render", r.number, JEQLLUNA_RANGES, !marked(frames, sizeof frames) || !same_desks(&d, &before));
+    put_range(range, ((uint64_t)1 << 63) - 15, 0, 16);
+    r = desk_render_ranges(&d, range, RANGE, memory, 16, frames, 31);
     expect("render", r.number, JEQLLUNA_MEMORY, !marked(frames, sizeof frames) || !same_desks(&d, &before));
-    r = jeqlluna_render(
-        d.words, d.n.words, d.longs, d.n.longs, d.floats, d.n.floats, d.contexts, d.n.contexts, d.history, d.n.history,
-        ((uint64_t)1 << 63) - 16, memory, 16, frames, 31);
+    put_range(range, ((uint64_t)1 << 63) - 16, 0, 16);
+    r = desk_render_ranges(&d, range, RANGE, memory, 16, frames, 31);
     expect("render", r.number, JEQLLUNA_FRAMES, !marked(frames, sizeof frames) || !same_desks(&d, &before));
     close_desk(&d);
     close_desk(&before);

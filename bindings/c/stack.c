@@ -10,6 +10,7 @@
 #include <string.h>
 #include <sys/mman.h>
 
+#include "ranges.h"
 #include "title.h"
 
 #define STACK (1u << 20)
@@ -20,7 +21,7 @@ enum { LENGTHS, REPLY_LENGTH, OPEN, UPDATE, RENDER, ORDER, DECODE, READ_DSP, WRI
 static const char *const names[] = {"lengths", "reply length", "open", "update", "render", "mix order", "decode", "read DSP", "write DSP"};
 
 typedef struct {
-    int call;
+    int call, cut; /* cut: whether a render's memory is in ranges that touch */
     const Counts *counts;
     Desk *desk;
     const uint8_t *title;
@@ -29,7 +30,9 @@ typedef struct {
 } Work;
 
 static uint64_t *low; /* the lowest place of the stack */
-static uint8_t memory[MEMORY], reply[20000], parameters[JEQLLUNA_PARAMETERS];
+static uint8_t memory[MEMORY], slice[MEMORY], reply[20000], parameters[JEQLLUNA_PARAMETERS];
+static uint64_t ranges[NUMBERS_MOST];
+static size_t numbers; /* of the ranges */
 static float frames[512];
 static size_t deepest = 0;
 
@@ -58,7 +61,8 @@ static void call(Work *w) {
         w->number = desk_update(d, 9000, w->title, title_size(w->counts), reply, sizeof reply).number;
         break;
     case RENDER:
-        w->number = desk_render(d, memory, MEMORY, frames, 512).number;
+        w->number = w->cut ? desk_render_ranges(d, ranges, numbers, slice, MEMORY, frames, 512).number
+                           : desk_render(d, memory, MEMORY, frames, 512).number;
         break;
     case ORDER:
         w->number = jeqlluna_mix_order(
@@ -128,12 +132,16 @@ static void desk(const char *name, const Counts *c) {
     static const struct {
         const char *name;
         Sound sound;
+        int cut;
     } plays[] = {
-        {"render, PCM16 at ratio 1", {2, 1.0f, 0.5f}},
-        {"render, PCM16 at ratio 0.9", {2, 0.9f, 0.5f}},
-        {"render, ADPCM at ratio 1", {6, 1.0f, 0.5f}},
-        {"render, ADPCM at ratio 16", {6, 16.0f, 0.5f}},
-        {"render, float at ratio 16", {5, 16.0f, 0.5f}},
+        {"render, PCM16 at ratio 1", {2, 1.0f, 0.5f}, 0},
+        {"render, PCM16 at ratio 0.9", {2, 0.9f, 0.5f}, 0},
+        {"render, ADPCM at ratio 1", {6, 1.0f, 0.5f}, 0},
+        {"render, ADPCM at ratio 16", {6, 16.0f, 0.5f}, 0},
+        {"render, float at ratio 16", {5, 16.0f, 0.5f}, 0},
+        {"render, PCM16 in ranges", {2, 1.0f, 0.5f}, 1},
+        {"render, ADPCM in ranges", {6, 16.0f, 0.5f}, 1},
+        {"render, float in ranges", {5, 16.0f, 0.5f}, 1},
     };
     uint8_t *title = (uint8_t *)room(title_size(c));
     Desk d = open_desk(c);
@@ -157,6 +165,7 @@ static void desk(const char *name, const Counts *c) {
             call(&w);
         }
         w.call = RENDER;
+        w.cut = plays[k].cut;
         print(name, plays[k].name, measure(w, 4));
     }
     w.call = ORDER;
@@ -183,6 +192,8 @@ int main(void) {
         fail("mmap");
     }
     put_memory(&seed, memory);
+    while ((numbers = cut_memory(&seed, memory, slice, ranges)) < 16 * RANGE) {
+    }
     desk("small", &SMALL);
     desk("middle", &MIDDLE);
     desk("largest", &LARGEST);

@@ -56,9 +56,16 @@ JeqllunaUpdate desk_update(Desk *d, uint32_t expected, const uint8_t *input, siz
 }
 
 JeqllunaRender desk_render(Desk *d, const uint8_t *memory, size_t length, float *frames, size_t count) {
+    uint64_t range[3] = {BASE, 0, 0};
+    range[2] = length;
+    return desk_render_ranges(d, range, 3, memory, length, frames, count);
+}
+
+JeqllunaRender desk_render_ranges(
+    Desk *d, const uint64_t *ranges, size_t numbers, const uint8_t *memory, size_t length, float *frames, size_t count) {
     return jeqlluna_render(
-        d->words, d->n.words, d->longs, d->n.longs, d->floats, d->n.floats, d->contexts, d->n.contexts, d->history, d->n.history, BASE,
-        memory, length, frames, count);
+        d->words, d->n.words, d->longs, d->n.longs, d->floats, d->n.floats, d->contexts, d->n.contexts, d->history, d->n.history, ranges,
+        numbers, memory, length, frames, count);
 }
 
 Desk open_desk(const Counts *c) {

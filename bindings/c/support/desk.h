@@ -49,7 +49,11 @@ Desk copy_desk(const Desk *d);
 
 uint32_t desk_open(Desk *d, const uint8_t *parameters, size_t length);
 JeqllunaUpdate desk_update(Desk *d, uint32_t expected, const uint8_t *input, size_t length, uint8_t *reply, size_t reply_length);
+
+/* A render with one range, all of memory from BASE on; and one with any ranges, by their numbers. */
 JeqllunaRender desk_render(Desk *d, const uint8_t *memory, size_t length, float *frames, size_t count);
+JeqllunaRender desk_render_ranges(
+    Desk *d, const uint64_t *ranges, size_t numbers, const uint8_t *memory, size_t length, float *frames, size_t count);
 
 /* Whether two renderers hold the same, bit for bit, and what one holds as a number to compare. */
 int same_desks(const Desk *a, const Desk *b);

@@ -1,5 +1,5 @@
 //! A first title: it plays a clip of 16-bit samples and scores a press against the position that the renderer tells.
-use jeqlluna::{Parameters, Refusal, Renderer, revision};
+use jeqlluna::{Parameters, Range, Refusal, Renderer, revision};
 const BASE: u32 = 0x10000; // where the clip stands
 const BEAT: i64 = 1200;
 const ONE: u32 = 1f32.to_bits();
@@ -28,7 +28,7 @@ fn main() -> Result<(), Refusal> {
     let clip: Vec<u8> = (0..4800).flat_map(|k| if k == BEAT { [0, 0x4e] } else { [0, 0] }).collect(); // a click
     renderer.update(0, &update(clip.len() as u32), 1024)?;
     for _ in 0..6 {
-        renderer.render(BASE.into(), &clip, &mut [0.0; 480])?;
+        renderer.render(&[Range::whole(BASE.into(), &clip)], &clip, &mut [0.0; 480])?;
     }
     let played = renderer.positions()?[0].played as i64; // the press
     let off = played - 3 - BEAT;

@@ -1,11 +1,11 @@
-//! Bad input never ends a process: a million updates with random and hostile numbers, positions, renders and DSP files in between, under a
-//! limit of 256 MB of memory.
+//! Bad input never ends a process: a million updates with random and hostile numbers, positions, renders with any ranges and DSP files in
+//! between, under a limit of 256 MB of memory.
 //!
 //!     cargo build --release --example hostile && prlimit --as=268435456 target/release/examples/hostile [UPDATES]
 //!
 //! It prints how many calls were answered how, and fails where the process is not limited, a refusal changes something, or a kind of answer
 //! never came.
-use jeqlluna::{PARAMETERS, Refusal, Renderer, read_dsp, write_dsp};
+use jeqlluna::{PARAMETERS, Range, Refusal, Renderer, read_dsp, write_dsp};
 use std::collections::BTreeMap;
 use std::process::ExitCode;
 
@@ -107,6 +107,28 @@ fn input(r: &mut Random) -> Vec<u8> {
     d
 }
 
+/// Up to 20 ranges of a slice, mostly few: one behind the other, touching, with gaps, empty, with any part inside; or with a number of any
+/// size somewhere.
+fn ranges(r: &mut Random, memory: &[u8]) -> Vec<Range> {
+    let mut base = if r.below(8) == 0 { r.next() >> r.below(3) } else { u64::from(r.number()) };
+    let count = if r.below(4) == 0 { r.below(21) } else { r.below(5) };
+    let mut made: Vec<Range> = (0..count)
+        .map(|_| {
+            let length = if r.below(4) == 0 { 0 } else { r.below(memory.len() + 1) };
+            let start = r.below(memory.len() - length + 1) as u64;
+            let range = Range { base, start, length: length as u64 };
+            let gap = if r.below(2) == 0 { 0 } else { r.number() };
+            base = base.saturating_add(range.length).saturating_add(gap.into());
+            range
+        })
+        .collect();
+    if count > 0 && r.below(3) == 0 {
+        let (any, range) = (if r.below(2) == 0 { r.next() } else { r.number().into() }, &mut made[r.below(count)]);
+        *[&mut range.base, &mut range.start, &mut range.length][r.below(3)] = any;
+    }
+    made
+}
+
 /// A DSP file of any bytes and any length, or one that says 0 where it must, with a sample count of any size.
 fn dsp(r: &mut Random) -> Vec<u8> {
     let mut file = vec![0; r.below(400)];
@@ -143,7 +165,7 @@ fn limited() -> bool {
 /// What a renderer would do next: the bits of its frames and then its reply.
 fn next(renderer: &Renderer, memory: &[u8]) -> (Vec<u32>, Vec<u8>) {
     let (mut r, mut frames) = (renderer.clone(), [0.0f32; 512]);
-    r.render(0x10000, memory, &mut frames).expect("memory and frames are allowed");
+    r.render(&[Range::whole(0x10000, memory)], memory, &mut frames).expect("memory and frames are allowed");
     (frames.iter().map(|x| x.to_bits()).collect(), r.update(0, &[], LIMIT).expect("the shortest reply"))
 }
 
@@ -191,9 +213,14 @@ fn main() -> ExitCode {
             files(r, &mut tally);
             if r.below(4) == 0 {
                 let mut frames = [0.0; 512];
-                let base = if r.below(8) == 0 { r.next() } else { u64::from(r.number()) };
-                let room = if r.below(16) == 0 { r.below(513) } else { 512 };
-                count(&mut tally, "render", &renderer.render(base, &memory, &mut frames[..room]));
+                let (ranges, room) = (ranges(r, &memory), if r.below(16) == 0 { r.below(513) } else { 512 });
+                let before = (r.below(64) == 0).then(|| renderer.clone());
+                let answer = renderer.render(&ranges, &memory, &mut frames[..room]);
+                count(&mut tally, "render", &answer);
+                if let (Some(before), Err(_)) = (before, answer) {
+                    looked += 1;
+                    assert_eq!(next(&before, &memory), next(&renderer, &memory), "a refusal changed something");
+                }
             }
         }
     }
@@ -205,7 +232,7 @@ fn main() -> ExitCode {
         ("open", &[0, 1, 2][..]),
         ("positions", &[0]),
         ("read_dsp", &[0, 11, 12]),
-        ("render", &[0, 5, 7]),
+        ("render", &[0, 5, 7, 13]),
         ("update", &[0, 6]),
         ("write_dsp", &[0, 11, 12]),
     ];

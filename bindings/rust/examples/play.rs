@@ -2,7 +2,7 @@
 //! and how far the voice has played.
 //!
 //!     cargo run --example play
-use jeqlluna::{Parameters, Position, Refusal, Renderer, revision};
+use jeqlluna::{Parameters, Position, Range, Refusal, Renderer, revision};
 
 const SAMPLES: usize = 240;
 const CLIP: usize = 1000;
@@ -54,7 +54,7 @@ fn main() -> Result<(), Refusal> {
     renderer.update(0, &update(), 4096)?;
     for k in 0..6 {
         let mut frames = [0.0f32; 2 * SAMPLES];
-        renderer.render(BASE, &memory, &mut frames)?;
+        renderer.render(&[Range::whole(BASE, &memory)], &memory, &mut frames)?;
         let loudest = frames.iter().fold(0f32, |most, x| most.max(x.abs()));
         let Position { played, consumed } = renderer.positions()?[0];
         println!("render {k}: loudest {loudest:.3}, played {played}, consumed {consumed}");

@@ -5,18 +5,20 @@
 //! refusal has changed nothing.
 //!
 //! ```
-//! use jeqlluna::{Parameters, Renderer, revision};
+//! use jeqlluna::{Parameters, Range, Renderer, revision};
 //!
 //! let parameters = Parameters { samples: 2, revision: revision(5), ..Parameters::default() };
 //! let mut renderer = Renderer::open(&parameters)?;
-//! let mut frames = [0.0; 4];
-//! renderer.render(0x10000, &[], &mut frames)?;
+//! let (memory, mut frames) = ([0; 16], [0.0; 4]);
+//! renderer.render(&[Range::whole(0x10000, &memory)], &memory, &mut frames)?;
 //! let reply = renderer.update(272, &[], 4096)?;
 //! assert_eq!(reply.len(), 272);
 //! # Ok::<(), jeqlluna::Refusal>(())
 //! ```
 //!
 //! An update without input, as here, changes nothing and tells how far the voices have played; [`Renderer::positions`] reads its reply.
+//!
+//! Sample memory is one slice in up to 16 ranges, each a [`Range`]; [`Range::whole`] is all of it.
 //!
 //! [`decode_adpcm`], [`read_dsp`] and [`write_dsp`] need no renderer: ADPCM alone, and clips as DSP files.
 //!
@@ -40,6 +42,7 @@ mod dsp;
 mod mode;
 mod parameters;
 mod positions;
+mod range;
 mod refusal;
 mod renderer;
 pub mod sys;
@@ -55,6 +58,7 @@ pub use adpcm::decode_adpcm;
 pub use dsp::{read_dsp, write_dsp};
 pub use parameters::{PARAMETERS, Parameters, revision};
 pub use positions::Position;
+pub use range::Range;
 pub use refusal::Refusal;
 pub use renderer::{MOST_HELD, Renderer};
 pub use sys::{AdpcmContext, DspHeader};

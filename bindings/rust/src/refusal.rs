@@ -13,7 +13,7 @@ pub enum Refusal {
     Lengths,
     /// 4: the five slices of the state hold no renderer.
     State,
-    /// 5: sample memory ends above 2^63.
+    /// 5: a range of sample memory ends above 2^63.
     Memory,
     /// 6: the reply slice is too short, or the reply longer than the limit that was given.
     Reply,
@@ -27,6 +27,8 @@ pub enum Refusal {
     DspHeader,
     /// 12: the data of a DSP file is too short for its samples, or the output for the file.
     DspLength,
+    /// 13: there are more than 16 ranges, a part lies outside memory, or a base below the end of the range before.
+    Ranges,
     /// A number that this version of the crate does not know, from a library of another version.
     Other(u32),
 }
@@ -46,6 +48,7 @@ impl Refusal {
             Refusal::Output => 9,
             Refusal::DspHeader => 11,
             Refusal::DspLength => 12,
+            Refusal::Ranges => 13,
             Refusal::Other(number) => number,
         }
     }
@@ -65,6 +68,7 @@ impl Refusal {
             9 => Refusal::Output,
             11 => Refusal::DspHeader,
             12 => Refusal::DspLength,
+            13 => Refusal::Ranges,
             number => Refusal::Other(number),
         })
     }
@@ -76,13 +80,14 @@ impl Refusal {
             Refusal::Counts => "another count of the parameters is too large",
             Refusal::Lengths => "the five slices are not as long as the parameters ask",
             Refusal::State => "the five slices hold no renderer",
-            Refusal::Memory => "sample memory ends above 2^63",
+            Refusal::Memory => "a range of sample memory ends above 2^63",
             Refusal::Reply => "the reply slice is too short",
             Refusal::Frames => "the frame slice is shorter than 2 * samples",
             Refusal::Start => "the start of an ADPCM decode is above 2^60",
             Refusal::Output => "the output of an ADPCM decode is shorter than the count",
             Refusal::DspHeader => "a DSP file has no whole header, or format, gain or padding is not 0",
             Refusal::DspLength => "the data of a DSP file is too short for its samples, or the output for the file",
+            Refusal::Ranges => "there are more than 16 ranges, a part lies outside memory, or a base below the end of the range before",
             Refusal::Other(_) => "an unknown number",
         }
     }

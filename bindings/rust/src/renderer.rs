@@ -1,5 +1,6 @@
 //! A renderer that owns its state.
-use crate::{PARAMETERS, Parameters, Refusal, mode, parameters, sys};
+use crate::range::NUMBERS;
+use crate::{PARAMETERS, Parameters, Range, Refusal, mode, parameters, sys};
 use alloc::vec;
 use alloc::vec::Vec;
 
@@ -107,11 +108,15 @@ impl Renderer {
         Ok(r.size)
     }
 
-    /// Renders from sample memory that stands at the address `base` to the front of `frames`, left and right by turns; floats beyond 2 ×
-    /// samples stay. Each frame is in -1..1 or NaN. A voice so slow that it needs no new sample is interpolated from its last three
-    /// and a fourth, 2 × third - second. Gives the rounds that the voices' fetches took. Refused by 5 and 7.
-    pub fn render(&mut self, base: u64, memory: &[u8], frames: &mut [f32]) -> Result<u32, Refusal> {
-        // SAFETY: each pointer and count are those of one slice; the six that are written are borrowed here alone.
+    /// Renders to the front of `frames`, left and right by turns; floats beyond 2 × samples stay. Each frame is in -1..1 or NaN. A voice
+    /// so slow that it needs no new sample is interpolated from its last three and a fourth, 2 × third - second. Gives the rounds that the
+    /// voices' fetches took.
+    ///
+    /// Sample memory is what the ranges say of `memory` ([`Range::whole`]: all of it, from an address on); where there is none, it has no
+    /// bytes. Refused by 13, 5 and 7, in this sequence.
+    pub fn render(&mut self, ranges: &[Range], memory: &[u8], frames: &mut [f32]) -> Result<u32, Refusal> {
+        // SAFETY: each pointer and count are those of one slice, the ranges' that of their numbers, three of 64 bits each and nothing
+        // between; the six that are written are borrowed here alone.
         let r = mode::ordered(|| unsafe {
             sys::jeqlluna_render(
                 self.words.as_mut_ptr(),
@@ -124,7 +129,8 @@ impl Renderer {
                 self.contexts.len(),
                 self.history.as_mut_ptr(),
                 self.history.len(),
-                base,
+                ranges.as_ptr().cast(),
+                NUMBERS * ranges.len(),
                 memory.as_ptr(),
                 memory.len(),
                 frames.as_mut_ptr(),

@@ -189,7 +189,8 @@ unsafe extern "C" {
         reply_len: usize,
     ) -> Update;
 
-    /// One render; the frames go to the front of their slice. Refusals: 4, 5, 7.
+    /// One render; the frames go to the front of their slice. Sample memory is in ranges of three numbers each: base, start and length
+    /// ([`crate::Range`]); one or two numbers left over are no range. Refusals, in this sequence: 4, 13, 5, 7.
     pub fn jeqlluna_render(
         words: *mut u32,
         words_len: usize,
@@ -201,7 +202,8 @@ unsafe extern "C" {
         contexts_len: usize,
         history: *mut f32,
         history_len: usize,
-        base: u64,
+        ranges: *const u64,
+        ranges_len: usize,
         memory: *const u8,
         memory_len: usize,
         frames: *mut f32,

@@ -4,6 +4,7 @@ mod dsp;
 mod lengths;
 mod modes;
 mod positions;
+mod ranges;
 mod refusals;
 mod sessions;
 mod title;

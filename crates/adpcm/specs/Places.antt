@@ -38,7 +38,7 @@ zero-or zero = inl refl
 zero-or (suc n) = inr (omega arith)
 
 -- a fact of a sample's nibble, by the two cases
-by-case : {A : Type 0} (n : ℕ) → (n % 14 ≡ 0 → nibbleOf n ≡ 16 * (n / 14) → A) → (0 < n % 14 → nibbleOf n ≡ 16 * (n / 14) + n % 14 + 2 → A) → A
+pub by-case : {A : Type 0} (n : ℕ) → (n % 14 ≡ 0 → nibbleOf n ≡ 16 * (n / 14) → A) → (0 < n % 14 → nibbleOf n ≡ 16 * (n / 14) + n % 14 + 2 → A) → A
 by-case n f g = ⊎-elim (λ (p : n % 14 ≡ 0). f p (nibble-at n .first p)) (λ (p : 0 < n % 14). g p (nibble-at n .later p)) (zero-or (n % 14))
 
 pub nibble-le : (n : ℕ) → nibbleOf n ≤ 16 * (n / 14) + n % 14 + 2

@@ -8,7 +8,7 @@ use lib.Ieee.{add, div, mul, sub, lt, ofInt, toUnsigned}
 use Rattle.adpcm.specs.Places.{nibbleOf, sizeOf}
 use Rattle.adpcm.specs.Runs.{countFrom, holds}
 use Rattle.floats.specs.Defs.{one, zero32}
-use Rattle.memory.specs.Memory.{readableOf}
+use Rattle.ranges.specs.Ranges.{Range, range, readableOf}
 use Rattle.resample.specs.Defs.{neededOf, nextOf}
 use Rattle.voice.specs.declared.play.Play.{Play}
 use Rattle.voice.specs.declared.play.Play.the-variants.{Started, Stopped, Stopping, Paused}
@@ -16,7 +16,7 @@ use Rattle.voice.specs.declared.wave.WaveBuffer.{WaveBuffer}
 use Rattle.voice.specs.declared.Voice.{Voice}
 use Rattle.voice.specs.Prepare.{flushSlot}
 use Rattle.voice.specs.Queue.{noBuffer}
-use Rattle.turn.specs.declared.Render.{Render}
+use Rattle.turn.specs.Render.{Render}
 use Rattle.alike.specs.Reads.{Span, span, voiceReads}
 
 -- ---- what the examples consist of
@@ -25,9 +25,13 @@ use Rattle.alike.specs.Reads.{Span, span, voiceReads}
 abbrev pub base : ℕ
 base = 0x10000
 
--- a render of two samples at 48 kHz, of so much memory
-abbrev pub rendering : ℕ → Render
-rendering size = record { «sample_count» = 2; «sample_rate» = 48000; «buffers_v2» = true; base = base; size = size }
+-- memory of so many bytes, which is one range
+abbrev pub whole : ℕ → List Range
+whole size = range base 0 size ∷ []
+
+-- a render of two samples at 48 kHz, of memory in these ranges
+abbrev pub rendering : List Range → Render
+rendering rs = record { «sample_count» = 2; «sample_rate» = 48000; «buffers_v2» = true; ranges = rs }
 
 -- a buffer that was sent: address, size in bytes, end in samples, context, whether it loops
 abbrev pub buffer : ℕ → ℕ → ℕ → ℕ → Bool → WaveBuffer
@@ -82,7 +86,7 @@ plays format channels b = voice true Started format channels 1 0 b noBuffer
 
 -- its reads, of 256 bytes of memory
 abbrev pub reads : Voice → List Span
-reads v = voiceReads (rendering 0x100) v
+reads v = voiceReads (rendering (whole 0x100)) v
 
 -- ---- formats and channels
 
@@ -118,12 +122,37 @@ flush = refl
 
 -- a read that does not lie in memory is no read: memory of 4 bytes and of 3; of 39 for the ADPCM voice, where the coefficients and the
 -- context alone are there, and of 31
-pub inside : (voiceReads (rendering 4) (plays 2 1 (buffer base 8 4 0 false)) ≡ span base 4 ∷ [])
-    × (voiceReads (rendering 3) (plays 2 1 (buffer base 8 4 0 false)) ≡ [])
-    × (voiceReads (rendering 39) (plays 6 1 (buffer (base + 40) 8 14 (base + 32) false)) ≡ span base 32 ∷ span (base + 32) 6 ∷ [])
-    × (voiceReads (rendering 31) (plays 6 1 (buffer (base + 40) 8 14 (base + 32) false)) ≡ [])
+pub inside : (voiceReads (rendering (whole 4)) (plays 2 1 (buffer base 8 4 0 false)) ≡ span base 4 ∷ [])
+    × (voiceReads (rendering (whole 3)) (plays 2 1 (buffer base 8 4 0 false)) ≡ [])
+    × (voiceReads (rendering (whole 39)) (plays 6 1 (buffer (base + 40) 8 14 (base + 32) false)) ≡ span base 32 ∷ span (base + 32) 6 ∷ [])
+    × (voiceReads (rendering (whole 31)) (plays 6 1 (buffer (base + 40) 8 14 (base + 32) false)) ≡ [])
 unfolding voiceReads neededOf nextOf add div mul sub lt ofInt toUnsigned readableOf nibbleOf sizeOf countFrom holds
 inside = (refl, refl, refl, refl)
+
+-- ---- two ranges and more
+
+-- n bytes from `base` on, whose part lies behind that of the second range; the second begins `gap` bytes behind the end of the first
+abbrev pub apart : ℕ → ℕ → List Range
+apart n gap = range base 0x100 n ∷ range (base + n + gap) 0 0x80 ∷ []
+
+-- two samples of PCM, the second of which lies in both ranges, are one span; not where the byte between its two is missing; and so of
+-- a frame of two channels
+pub across : (voiceReads (rendering (apart 3 0)) (plays 2 1 (buffer base 8 4 0 false)) ≡ span base 4 ∷ [])
+    × (voiceReads (rendering (apart 3 1)) (plays 2 1 (buffer base 8 4 0 false)) ≡ [])
+    × (voiceReads (rendering (apart 6 0)) (plays 2 2 (buffer base 16 4 0 false)) ≡ span base 8 ∷ [])
+    × (voiceReads (rendering (apart 6 1)) (plays 2 2 (buffer base 16 4 0 false)) ≡ [])
+unfolding voiceReads neededOf nextOf add div mul sub lt ofInt toUnsigned readableOf
+across = (refl, refl, refl, refl)
+
+-- ADPCM: a context that lies in both ranges is one span; where a byte of it is missing, it is not read, and the samples are; coefficients
+-- in three ranges, the second of which they hold whole
+pub adpcm-across : (voiceReads (rendering (apart 35 0)) (plays 6 1 (buffer (base + 40) 8 14 (base + 32) false))
+    ≡ span base 32 ∷ span (base + 32) 6 ∷ span (base + 40) 2 ∷ [])
+    × (voiceReads (rendering (apart 35 1)) (plays 6 1 (buffer (base + 40) 8 14 (base + 32) false)) ≡ span base 32 ∷ span (base + 40) 2 ∷ [])
+    × (voiceReads (rendering (range base 0x100 10 ∷ range (base + 10) 0 10 ∷ range (base + 20) 0x80 40 ∷ []))
+    (plays 6 1 (buffer (base + 40) 8 14 0 false)) ≡ span base 32 ∷ span (base + 40) 2 ∷ [])
+unfolding voiceReads neededOf nextOf add div mul sub lt ofInt toUnsigned readableOf nibbleOf sizeOf countFrom holds
+adpcm-across = (refl, refl, refl)
 
 -- ---- voices that read nothing: not in use, without a buffer queued, paused, stopped, stopping
 

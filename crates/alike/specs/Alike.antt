@@ -6,6 +6,7 @@ use Prim.Native.Nat.{ℕ, _*_, _<_}
 use lib.Dec.{T}
 use lib.ListN.{length}
 use Rattle.rows.specs.Rows.{part}
+use Rattle.ranges.specs.Ranges.{Range}
 use Rattle.memory.specs.Memory.{readOf}
 use Rattle.params.specs.declared.params.Params.{Params}
 use Rattle.state.specs.State.{State}
@@ -21,9 +22,9 @@ pub record Alike (p : Params) (P : ℕ → Type 0) (a b : State) : Type 0 where
   pub contexts : (k : ℕ) → k < p .voices → P k → part 3 (k * 3) (a .contexts) ≡ part 3 (k * 3) (b .contexts)
   pub history : (k : ℕ) → k < p .voices → P k → part 18 (k * 18) (a .history) ≡ part 18 (k * 18) (b .history)
 
--- two memories with the same base give the same bytes to each of these reads
-abbrev pub SameReads : ℕ → List ℕ → List ℕ → List Span → Type 0
-SameReads base m m′ reads = (s : Span) → List·Memᴰ s reads → readOf base m (s .at) (s .long) ≡ readOf base m′ (s .at) (s .long)
+-- two memories in the same ranges give the same bytes to each of these reads
+abbrev pub SameReads : List Range → List ℕ → List ℕ → List Span → Type 0
+SameReads rs m m′ reads = (s : Span) → List·Memᴰ s reads → readOf rs m (s .at) (s .long) ≡ readOf rs m′ (s .at) (s .long)
 
 -- a voice that can be heard: it is in use and has a destination
 unfoldable pub live : Voice → Bool

@@ -6,12 +6,12 @@ use mathlib.Core.Path.{_≡_}
 use Prim.Native.Nat.{ℕ, _*_}
 use Rattle.memory.specs.Memory.{readOf}
 use Rattle.voice.specs.declared.Voice.{Voice}
-use Rattle.plan.specs.declared.Source.{Source}
+use Rattle.plan.specs.Source.{Source}
 use Rattle.plan.specs.declared.Act.{Act}
 use Rattle.plan.specs.declared.Decode.{Decode}
 use Rattle.plan.specs.declared.Decode.the-variants.{Nothing, Pcm, Adpcm, Silence}
 use Rattle.plan.specs.Rounds.{Planned}
-use Rattle.turn.specs.declared.Render.{Render}
+use Rattle.turn.specs.Render.{Render}
 use Rattle.turn.specs.Turn.{takesPart, sourceOf, turnOf}
 use Rattle.state_voices.specs.StateVoices.{begunVoice}
 

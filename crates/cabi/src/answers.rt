@@ -119,6 +119,10 @@ pub fn render_told(a: RenderAnswer) -> JeqllunaRender
             number: 4,
             rounds: 0,
         },
+        RenderAnswer::Ranges => JeqllunaRender {
+            number: 13,
+            rounds: 0,
+        },
         RenderAnswer::FarMemory => JeqllunaRender {
             number: 5,
             rounds: 0,

@@ -18,6 +18,7 @@ pub use dsp::JeqllunaDspWritten;
 pub use dsp::jeqlluna_read_dsp;
 pub use dsp::jeqlluna_write_dsp;
 ghost use mathlib.Core.Path.{_≡_};
+ghost use Rattle.ranges.specs.Ranges.{rangesOf};
 ghost use Rattle.params.specs.Params.{parseOf};
 ghost use Rattle.state.specs.State.{stateOf};
 ghost use Rattle.calls.specs.Calls.{lengthsCall, replyLengthCall, openLeft, openCall, updateLeft, updateCall, renderLeft, renderCall, orderCall};
@@ -98,12 +99,13 @@ pub extern "C" fn jeqlluna_render(
     floats: &mut [f32],
     contexts: &mut [u16],
     history: &mut [f32],
-    base: u64,
+    ranges: &[u64],
     memory: &[u8],
     frames: &mut [f32],
 ) -> JeqllunaRender
     ensures { λ r. ⌜ renderLeft (r .number) (r .rounds) (stateOf (now (words .exit)) (now (longs .exit)) (now (floats .exit)) (now (contexts .exit)) (now (history .exit))) (now (frames .exit))
-        ≡ renderCall (stateOf (now (words .entry)) (now (longs .entry)) (now (floats .entry)) (now (contexts .entry)) (now (history .entry))) base (now (memory .entry)) (now (frames .entry)) ⌝ }
+        ≡ renderCall (stateOf (now (words .entry)) (now (longs .entry)) (now (floats .entry)) (now (contexts .entry)) (now (history .entry)))
+        (rangesOf (now (ranges .entry))) (now (memory .entry)) (now (frames .entry)) ⌝ }
 {
     answers::render_told(renderer::render(
         words,
@@ -111,7 +113,7 @@ pub extern "C" fn jeqlluna_render(
         floats,
         contexts,
         history,
-        base,
+        ranges,
         memory,
         frames,
     ))

@@ -2,11 +2,13 @@
 -- A refusal's other results are 0, and the state and the lent slice stay. Definitions only.
 use mathlib.Core.Bool.{Bool, cond}
 use mathlib.Core.List.{List, []}
-use Prim.Native.Nat.{ℕ, _+_, _*_, _^_}
+use Prim.Native.Nat.{ℕ, _*_}
 use lib.Dec.{leb}
 use lib.Ieee.{Float}
 use lib.ListN.{length}
 use Rattle.rows.specs.Rows.{put}
+use Rattle.ranges.specs.Ranges.{Range}
+use Rattle.ranges.specs.Questions.{laidOf, nearOf}
 use Rattle.params.specs.declared.params.Params.{Params}
 use Rattle.params.specs.Sizes.{replyLength}
 use Rattle.state.specs.declared.Places.{Places}
@@ -105,19 +107,22 @@ pub record RenderOutcome : Type 0 where
 abbrev pub renderLeft : ℕ → ℕ → State → List Float → RenderOutcome
 renderLeft n rounds st frames = record { number = n; rounds = rounds; state = st; frames = frames }
 
-unfoldable pub renderDone : State → ℕ → List ℕ → List Float → RenderOutcome
+unfoldable pub renderDone : State → List Range → List ℕ → List Float → RenderOutcome
 unfolding renderedBy
-renderDone st base m frames =
-    let r = renderedBy (paramsIn st) base m st frames in
+renderDone st rs m frames =
+    let r = renderedBy (paramsIn st) rs m st frames in
     renderLeft 0 (r .rounds) (r .state) (r .frames)
 
-unfoldable pub renderCall : State → ℕ → List ℕ → List Float → RenderOutcome
+-- memory is the bytes m in ranges; question 5 is asked of every range
+unfoldable pub renderCall : State → List Range → List ℕ → List Float → RenderOutcome
 unfolding wholeOf renderDone
-renderCall st base m frames =
+renderCall st rs m frames =
     cond (wholeOf st)
-    (cond (leb (base + length m) (2 ^ 63))
-    (cond (leb (2 * paramsIn st .«sample_count») (length frames)) (renderDone st base m frames) (renderLeft 7 0 st frames))
+    (cond (laidOf (length m) rs)
+    (cond (nearOf rs)
+    (cond (leb (2 * paramsIn st .«sample_count») (length frames)) (renderDone st rs m frames) (renderLeft 7 0 st frames))
     (renderLeft 5 0 st frames))
+    (renderLeft 13 0 st frames))
     (renderLeft 4 0 st frames)
 
 -- ---- mix_order: the sub-mixes that a render runs, in their sequence; the state stays

@@ -63,7 +63,7 @@ fn print(name: &[u8], n: u64) {
     io::write_all(1, &[b'\n']);
 }
 
-fn rounds(q: Queue, s: Source) -> u64 {
+fn rounds(q: Queue, s: Source, ranges: &[u64]) -> u64 {
     if q.index > 3 {
         return 0;
     }
@@ -73,7 +73,7 @@ fn rounds(q: Queue, s: Source) -> u64 {
     if s.channels > 6 {
         return 0;
     }
-    plan::plan_fetch(q, s, 240).rounds as u64
+    plan::plan_fetch(q, s, ranges, 240).rounds as u64
 }
 
 fn main() {
@@ -84,8 +84,6 @@ fn main() {
         decoding: 0,
         data_source: 0,
         buffers_v2: true,
-        base: 0x10000,
-        size: 2,
     };
     let ctx = AdpcmContext {
         pred_scale: 0,
@@ -93,9 +91,10 @@ fn main() {
         history1: 0,
     };
     let q = queue(0x10000);
+    let ranges = [0x10000u64, 0, 2];
     let mut row = [1.0f32; 243];
-    fetch_once::fetch_row(q, s, &memory, ctx, [-1.0f32; 3], 0, &mut row);
+    fetch_once::fetch_row(q, s, &ranges, &memory, ctx, [-1.0f32; 3], 0, &mut row);
     print(b"samples ", count(&row, 4660.0) as u64);
     print(b"zeros ", count(&row, 0.0) as u64);
-    print(b"rounds ", rounds(q, s));
+    print(b"rounds ", rounds(q, s, &ranges));
 }

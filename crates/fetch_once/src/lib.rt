@@ -7,6 +7,7 @@ use voice::Queue;
 pub fn fetch_row(
     q: Queue,
     s: Source,
+    ranges: &[u64],
     memory: &[u8],
     adpcm: AdpcmContext,
     history: [f32; 3],
@@ -16,7 +17,7 @@ pub fn fetch_row(
     if out.len() < 3 {
         return adpcm;
     }
-    if out.len() > 65536 {
+    if out.len() > 4100 {
         return adpcm;
     }
     if q.index > 3 {
@@ -28,11 +29,17 @@ pub fn fetch_row(
     if s.channels > 6 {
         return adpcm;
     }
-    if s.size != memory.len() as u64 {
+    if s.channels <= c {
+        return adpcm;
+    }
+    if !ranges::laid(ranges, memory.len() as u64) {
+        return adpcm;
+    }
+    if !ranges::near(ranges) {
         return adpcm;
     }
     let count = (out.len() - 3) as u32;
-    let plan = plan::plan_fetch(q, s, count);
-    let table = sound::coefficients(memory, s, plan.table);
-    sound::fetch_channel(q, s, memory, &table, adpcm, history, c, out)
+    let plan = plan::plan_fetch(q, s, ranges, count);
+    let table = sound::coefficients(ranges, memory, s, plan.table);
+    sound::fetch_channel(q, s, ranges, memory, &table, adpcm, history, c, out)
 }

@@ -7,6 +7,7 @@ ghost use Prim.Native.Nat.{_+_, _*_, _≤_, _<_};
 ghost use lib.ListN.{length, take};
 ghost use Rattle.rows.specs.Rows.{put};
 ghost use Rattle.sound_rows.specs.SoundRow.{contextsOf, historyOf};
+ghost use Rattle.plan.specs.Source.{over};
 ghost use Rattle.plan.specs.Rounds.{hasTable};
 ghost use Rattle.sound.specs.Channel.{Ready};
 ghost use Rattle.playing.specs.Playing.{material, playedSound};
@@ -29,6 +30,7 @@ fn sound_at(k: usize, contexts: &[u16], history: &[f32]) -> Sound
 fn play(
     q: Queue,
     s: Source,
+    ranges: &[u64],
     table: bool,
     memory: &[u8],
     sound: Sound,
@@ -39,19 +41,20 @@ fn play(
     src: &mut [f32],
     out: &mut [f32],
 ) -> Sound
-    requires { ⌜ Ready q s (now memory) (take (3 + needed) (now src)) ⌝ }
+    requires { ⌜ Ready q (over s (now ranges)) (now memory) (take (3 + needed) (now src)) ⌝ }
     requires { ⌜ (3 + needed ≤ length (now src)) × (needed ≤ 4097) ⌝ }
-    requires { ⌜ table ≡ hasTable s ⌝ }
+    requires { ⌜ table ≡ hasTable (over s (now ranges)) ⌝ }
     requires { ⌜ (n ≤ 256) × (s .channels * n ≤ length (now out)) ⌝ }
-    ensures { λ r. ⌜ r ≡ playedSound (material q s (now (memory .entry)) needed sound ratio fraction n) ⌝ }
+    ensures { λ r. ⌜ r ≡ playedSound (material q (over s (now (ranges .entry))) (now (memory .entry)) needed sound ratio fraction n) ⌝ }
     ensures { λ _. ⌜ take (s .channels * n) (now (out .exit))
-        ≡ heardOut (material q s (now (memory .entry)) needed sound ratio fraction n) ⌝ }
+        ≡ heardOut (material q (over s (now (ranges .entry))) (now (memory .entry)) needed sound ratio fraction n) ⌝ }
 {
     let row = (3 + needed) as usize;
     let rows = (s.channels * n) as usize;
     playing::play_channels(
         q,
         s,
+        ranges,
         table,
         memory,
         sound,
@@ -67,6 +70,7 @@ fn play(
 pub fn hear(
     q: Queue,
     s: Source,
+    ranges: &[u64],
     table: bool,
     memory: &[u8],
     ratio: f32,
@@ -79,19 +83,21 @@ pub fn hear(
     src: &mut [f32],
     out: &mut [f32],
 )
-    requires { ⌜ Ready q s (now memory) (take (3 + needed) (now src)) ⌝ }
+    requires { ⌜ Ready q (over s (now ranges)) (now memory) (take (3 + needed) (now src)) ⌝ }
     requires { ⌜ (3 + needed ≤ length (now src)) × (needed ≤ 4097) ⌝ }
-    requires { ⌜ table ≡ hasTable s ⌝ }
+    requires { ⌜ table ≡ hasTable (over s (now ranges)) ⌝ }
     requires { ⌜ (n ≤ 256) × (s .channels * n ≤ length (now out)) ⌝ }
     requires { ⌜ (k < 64) × (k * 3 + 3 ≤ length (now contexts)) × (k * 18 + 18 ≤ length (now history)) ⌝ }
     ensures { λ _. ⌜ now (contexts .exit)
-        ≡ put (now (contexts .entry)) (k * 3) (contextsOf (playedSound (material q s (now (memory .entry)) needed
+        ≡ put (now (contexts .entry)) (k * 3) (contextsOf (playedSound (material q (over s (now (ranges .entry)))
+        (now (memory .entry)) needed
         (soundIn k (now (contexts .entry)) (now (history .entry))) ratio fraction n))) ⌝ }
     ensures { λ _. ⌜ now (history .exit)
-        ≡ put (now (history .entry)) (k * 18) (historyOf (playedSound (material q s (now (memory .entry)) needed
+        ≡ put (now (history .entry)) (k * 18) (historyOf (playedSound (material q (over s (now (ranges .entry)))
+        (now (memory .entry)) needed
         (soundIn k (now (contexts .entry)) (now (history .entry))) ratio fraction n))) ⌝ }
     ensures { λ _. ⌜ take (s .channels * n) (now (out .exit))
-        ≡ heardOut (material q s (now (memory .entry)) needed
+        ≡ heardOut (material q (over s (now (ranges .entry))) (now (memory .entry)) needed
         (soundIn k (now (contexts .entry)) (now (history .entry))) ratio fraction n) ⌝ }
 {
     let at_c = k * 3;
@@ -100,6 +106,7 @@ pub fn hear(
     let kept = play(
         q,
         s,
+        ranges,
         table,
         memory,
         before,

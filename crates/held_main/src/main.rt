@@ -159,9 +159,10 @@ fn render(before: VoiceSound, pitch: f32, memory: &[u8]) -> VoiceSound {
         sample_count: OUTPUTS,
         sample_rate: RATE,
         buffers_v2: true,
-        base: BASE,
-        size: memory.len() as u64,
     };
+    if memory.len() > 8 {
+        return before;
+    }
     if v.index > 3 {
         return before;
     }
@@ -174,7 +175,8 @@ fn render(before: VoiceSound, pitch: f32, memory: &[u8]) -> VoiceSound {
     if !(v.fraction < 1.0) {
         return before;
     }
-    let t = turn::plan_turn(v, r);
+    let ranges = [BASE, 0, memory.len() as u64];
+    let t = turn::plan_turn(v, r, &ranges);
     if t.needed > 13 {
         return before;
     }
@@ -187,6 +189,7 @@ fn render(before: VoiceSound, pitch: f32, memory: &[u8]) -> VoiceSound {
     let sound = playing::play_channels(
         q,
         s,
+        &ranges,
         t.plan.table,
         memory,
         old,

@@ -3,12 +3,12 @@
 use Prim.Native.Nat.{ℕ, _+_, _-_, _*_, _/_, _%_, _^_, min}
 use mathlib.Core.Bool.{cond}
 use lib.Dec.{leb, eqb}
-use Rattle.memory.specs.Memory.{readableOf}
+use Rattle.ranges.specs.Ranges.{readableOf}
 use Rattle.adpcm.specs.Places.{nibbleOf, sizeOf}
 use Rattle.adpcm.specs.Runs.{countOf}
 use Rattle.adpcm.specs.declared.places.Sample.{Sample}
 use Rattle.voice.specs.declared.wave.WaveBuffer.{WaveBuffer}
-use Rattle.plan.specs.declared.Source.{Source}
+use Rattle.plan.specs.Source.{Source}
 use Rattle.plan.specs.declared.Decode.{Decode}
 use Rattle.plan.specs.declared.Decode.the-variants.{Nothing, Pcm, Adpcm, Silence}
 use Rattle.plan.specs.declared.attempt.Got.the-variants.{Missing, Samples}
@@ -24,7 +24,7 @@ noSamples = record { got = Missing; decode = Nothing }
 
 -- a read of len bytes that gives n samples, if it succeeds
 abbrev pub ifRead : Source → ℕ → ℕ → Attempt → Attempt
-ifRead s addr len a = cond (readableOf (s .base) (s .size) addr len) a noSamples
+ifRead s addr len a = cond (readableOf (s .ranges) addr len) a noSamples
 
 -- PCM of a width: as many frames as the buffer has from start on, at most want
 unfoldable pub pcmPlan : ℕ → Source → WaveBuffer → Sample → ℕ → Attempt

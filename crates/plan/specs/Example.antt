@@ -2,11 +2,11 @@
 use mathlib.Core.Bool.{true, false}
 use mathlib.Core.List.{[], _∷_}
 use mathlib.Core.Path.{_≡_, refl}
-use Rattle.memory.specs.Memory.{readableOf}
+use Rattle.ranges.specs.Ranges.{range, holds, nextAt, nextLeft, leftOf, readableOf}
 use Rattle.voice.specs.Queue.{noBuffer, endBuffer}
 use Rattle.voice.specs.declared.wave.WaveBuffer.{WaveBuffer}
 use Rattle.voice.specs.declared.queue.Queue.{Queue}
-use Rattle.plan.specs.declared.Source.{Source}
+use Rattle.plan.specs.Source.{Source}
 use Rattle.plan.specs.Attempt.{pcmPlan, adpcmPlan, decodePlan}
 use Rattle.plan.specs.Rounds.{renewsOf, inLoop, loopsOver, resetsPlayed, afterMissing, afterLoop, spanOver, afterGot, roundOf, roundPlan, more, rounds, hasTable, planOf}
 
@@ -38,8 +38,8 @@ queue = record {
 }
 
 pub source : Source
-source = record { format = 2; channels = 1; decoding = 0; «data_source» = 0; «buffers_v2» = true; base = 4096; size = 2 }
+source = record { format = 2; channels = 1; decoding = 0; «data_source» = 0; «buffers_v2» = true; ranges = range 4096 0 2 ∷ [] }
 
 pub sixty-four : (planOf queue source 240 .rounds ≡ 64) × (planOf queue source 240 .done ≡ 64) × (planOf queue source 240 .queue .played ≡ 64)
-unfolding queue source one planOf rounds more hasTable roundPlan roundOf afterGot afterLoop afterMissing spanOver resetsPlayed loopsOver inLoop renewsOf decodePlan pcmPlan adpcmPlan readableOf endBuffer
+unfolding queue source one planOf rounds more hasTable roundPlan roundOf afterGot afterLoop afterMissing spanOver resetsPlayed loopsOver inLoop renewsOf decodePlan pcmPlan adpcmPlan readableOf leftOf nextAt nextLeft holds endBuffer
 sixty-four = (refl, refl, refl)

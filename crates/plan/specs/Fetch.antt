@@ -5,7 +5,7 @@ use mathlib.Core.Bool.{Bool, true, false}
 use mathlib.Core.List.{List, [], _∷_, _++_}
 use mathlib.Core.Path.{_≡_, refl, sym, _∙_}
 use Rattle.voice.specs.declared.queue.Queue.{Queue}
-use Rattle.plan.specs.declared.Source.{Source}
+use Rattle.plan.specs.Source.{Source}
 use Rattle.plan.specs.declared.Act.{Act}
 use Rattle.plan.specs.Rounds.{Round, roundPlan, more, Planned, grown, rounds, hasTable, planOf}
 use Rattle.plan.specs.Fits.{rounded, made-le}

@@ -4,17 +4,17 @@ use native.Mathlib.Omega.{arith}
 use mathlib.Core.Bool.{Bool, true, false, cond, not, _&&_, _||_}
 use mathlib.Core.List.{List, [], _∷_, _++_}
 use mathlib.Core.Path.{_≡_, refl, _∙_}
-use borrow.Author.Tests.{eqb-true, leb-true, ltb-true, le-leb, lt-ltb}
+use borrow.Author.Tests.{eqb-true, leb-true, leb-false, ltb-true, le-leb, lt-ltb}
 use lib.Dec.{leb, ltb, eqb}
 use lib.ListN.{length, length-set, length-append}
-use Rattle.memory.specs.Memory.{readableOf}
+use Rattle.ranges.specs.Ranges.{readableOf}
 use Rattle.adpcm.specs.Places.{nibbleOf, sizeOf}
 use Rattle.adpcm.specs.Runs.{countOf, count-le}
 use Rattle.adpcm.specs.declared.places.Sample.{Sample}
 use Rattle.voice.specs.Queue.{bufferAt, endBuffer}
 use Rattle.voice.specs.declared.wave.WaveBuffer.{WaveBuffer}
 use Rattle.voice.specs.declared.queue.Queue.{Queue}
-use Rattle.plan.specs.declared.Source.{Source}
+use Rattle.plan.specs.Source.{Source}
 use Rattle.plan.specs.declared.Act.{Act}
 use Rattle.plan.specs.declared.Decode.{Decode}
 use Rattle.plan.specs.declared.Decode.the-variants.{Nothing, Pcm, Adpcm, Silence}
@@ -42,20 +42,21 @@ madeOf (Silence n) = n
 -- its read succeeds
 abbrev pub readsOf : Source → Decode → Bool
 readsOf s Nothing = true
-readsOf s (Pcm width addr n) = readableOf (s .base) (s .size) addr (n * (width * s .channels))
-readsOf s (Adpcm want addr bytes start) = readableOf (s .base) (s .size) addr bytes
+readsOf s (Pcm width addr n) = readableOf (s .ranges) addr (n * (width * s .channels))
+readsOf s (Adpcm want addr bytes start) = readableOf (s .ranges) addr bytes
 readsOf s (Silence n) = true
 
--- PCM is 2 or 4 bytes wide; ADPCM starts below 2^32, and reads no more bytes than its samples take
+-- PCM is 2 or 4 bytes wide; ADPCM starts below 2^32, and reads from its first sample's byte on no more than its samples take
 abbrev pub formedOf : Decode → Bool
 formedOf Nothing = true
 formedOf (Pcm width addr n) = eqb width 2 || eqb width 4
-formedOf (Adpcm want addr bytes start) = ltb (start .0) (2 ^ 32) && leb bytes (sizeOf (start .0 + want))
+formedOf (Adpcm want addr bytes start) =
+    ltb (start .0) (2 ^ 32) && leb (nibbleOf (start .0) / 2 + bytes) (sizeOf (start .0 + want))
 formedOf (Silence n) = true
 
 -- an act's reads succeed
 pub record Reads (s : Source) (a : Act) : Type 0 where
-  pub context : a .renews ≡ true → readableOf (s .base) (s .size) (a .context) 6 ≡ true
+  pub context : a .renews ≡ true → readableOf (s .ranges) (a .context) 6 ≡ true
   pub decode : readsOf s (a .decode) ≡ true
   pub formed : formedOf (a .decode) ≡ true
 
@@ -82,10 +83,11 @@ both true q h = (refl, h)
 both false q h = absurd (let z : _≡_ {A = ℕ} 0 1 = cc in omega arith)
 
 -- where an ADPCM decode starts, and how many bytes it reads
-pub adpcm-formed : (addr bytes : ℕ) (start : Sample) (want : ℕ) → formedOf (Adpcm want addr bytes start) ≡ true → (start .0 < 2 ^ 32) × (bytes ≤ sizeOf (start .0 + want))
+pub adpcm-formed : (addr bytes : ℕ) (start : Sample) (want : ℕ) → formedOf (Adpcm want addr bytes start) ≡ true
+    → (start .0 < 2 ^ 32) × (nibbleOf (start .0) / 2 + bytes ≤ sizeOf (start .0 + want))
 adpcm-formed addr bytes start want h =
-    let b = both (ltb (start .0) (2 ^ 32)) (leb bytes (sizeOf (start .0 + want))) h in
-    (ltb-true (start .0) (2 ^ 32) (b .0), leb-true bytes (sizeOf (start .0 + want)) (b .1))
+    let b = both (ltb (start .0) (2 ^ 32)) (leb (nibbleOf (start .0) / 2 + bytes) (sizeOf (start .0 + want))) h in
+    (ltb-true (start .0) (2 ^ 32) (b .0), leb-true (nibbleOf (start .0) / 2 + bytes) (sizeOf (start .0 + want)) (b .1))
 
 -- ---- a decode
 
@@ -111,14 +113,16 @@ tried-pcm : (width : ℕ) (s : Source) (w : WaveBuffer) (start : Sample) (want :
 unfolding pcmPlan
 tried-pcm width s w start want h =
     by-cond (Tried s want) (eqb (min want (w .size / (width * s .channels) - start .0)) 0) (λ e. tried-none s want)
-    (λ e. by-cond (Tried s want) (readableOf (s .base) (s .size) _ _) (λ r. record { room = omega arith; made = refl; reads = r; formed = h }) (λ r. tried-none s want))
+    (λ e. by-cond (Tried s want) (readableOf (s .ranges) _ _) (λ r. record { room = omega arith; made = refl; reads = r; formed = h }) (λ r. tried-none s want))
 
 got-count : (n : ℕ) (b : Bool) → eqb n 0 ≡ b → n ≡ gotOf (cond b Missing (Samples n))
 got-count n true e = eqb-true n 0 e
 got-count n false e = refl
 
-formed-adpcm : (addr bytes : ℕ) (start : Sample) (want : ℕ) → start .0 < 2 ^ 32 → bytes ≤ sizeOf (start .0 + want) → formedOf (Adpcm want addr bytes start) ≡ true
-formed-adpcm addr bytes start want h l = rw (lt-ltb (start .0) (2 ^ 32) h) (le-leb bytes (sizeOf (start .0 + want)) l)
+formed-adpcm : (addr bytes : ℕ) (start : Sample) (want : ℕ) → start .0 < 2 ^ 32
+    → nibbleOf (start .0) / 2 + bytes ≤ sizeOf (start .0 + want) → formedOf (Adpcm want addr bytes start) ≡ true
+formed-adpcm addr bytes start want h l =
+    rw (lt-ltb (start .0) (2 ^ 32) h) (le-leb (nibbleOf (start .0) / 2 + bytes) (sizeOf (start .0 + want)) l)
 
 tried-adpcm : (s : Source) (w : WaveBuffer) (start : Sample) (want : ℕ) → start .0 < 2 ^ 32 → Tried s want (adpcmPlan s w start want)
 unfolding adpcmPlan
@@ -129,8 +133,8 @@ tried-adpcm s w start want h =
     let n = countOf (last - first) (start .0) want in
     let a : Attempt = record { got = cond (eqb n 0) Missing (Samples n); decode = Adpcm want addr (last - first) start } in
     by-cond (Tried s want) (leb last first) (λ e. tried-none s want)
-    (λ e. by-cond (Tried s want) (readableOf (s .base) (s .size) addr (last - first)) {x = a}
-    (λ r. record { room = omega arith; made = got-count n (eqb n 0) refl; reads = r; formed = formed-adpcm addr (last - first) start want h (omega arith) })
+    (λ e. by-cond (Tried s want) (readableOf (s .ranges) addr (last - first)) {x = a}
+    (λ r. record { room = omega arith; made = got-count n (eqb n 0) refl; reads = r; formed = formed-adpcm addr (last - first) start want h (omega (arith, leb-false last first e)) })
     (λ r. tried-none s want))
 
 tried-decode : (s : Source) (w : WaveBuffer) (start : Sample) (want : ℕ) → start .0 < 2 ^ 32 → Tried s want (decodePlan s w start want)
@@ -163,19 +167,19 @@ kept-missing : (q : Queue) → Kept q (afterMissing q)
 unfolding afterMissing endBuffer
 kept-missing q = record { index = λ h. omega arith; valid = length-set (q .valid) (q .index) false; buffers = refl }
 
-kept-loop : (q : Queue) (s : Source) (w : WaveBuffer) (got : ℕ) → Kept q (afterLoop q s w got)
+kept-loop : (q : Queue) (decoding : ℕ) (v2 : Bool) (w : WaveBuffer) (got : ℕ) → Kept q (afterLoop q decoding v2 w got)
 unfolding afterLoop
-kept-loop q s w got =
+kept-loop q decoding v2 w got =
     let l = (q .loops + 1) % 2 ^ 32 in
     let k = kept-at q 0 (q .played) l in
-    kept-then (by-cond (Kept q) (loopsOver (s .«buffers_v2») (w .«loop_count») l got) (λ e. kept-then k (kept-end _)) (λ e. k)) (kept-at _ _ _ _)
+    kept-then (by-cond (Kept q) (loopsOver v2 (w .«loop_count») l got) (λ e. kept-then k (kept-end _)) (λ e. k)) (kept-at _ _ _ _)
 
-kept-got : (q : Queue) (s : Source) (w : WaveBuffer) (total got : ℕ) → Kept q (afterGot q s w total got .queue)
+kept-got : (q : Queue) (decoding : ℕ) (v2 : Bool) (w : WaveBuffer) (total got : ℕ) → Kept q (afterGot q decoding v2 w total got .queue)
 unfolding afterGot
-kept-got q s w total got =
+kept-got q decoding v2 w total got =
     let k = kept-at q ((q .offset + got) % 2 ^ 32) ((q .played + got) % 2 ^ 64) (q .loops) in
     by-cond (λ (m : Moved). Kept q (m .queue)) (spanOver ((q .offset + got) % 2 ^ 32) total got)
-    (λ e. by-cond (λ (m : Moved). Kept q (m .queue)) (w .looping) (λ f. kept-then k (kept-loop _ s w got)) (λ f. kept-then k (kept-missing _)))
+    (λ e. by-cond (λ (m : Moved). Kept q (m .queue)) (w .looping) (λ f. kept-then k (kept-loop _ decoding v2 w got)) (λ f. kept-then k (kept-missing _)))
     (λ e. k)
 
 -- ---- a round
@@ -191,9 +195,9 @@ rounded-of : (q : Queue) (s : Source) (w : WaveBuffer) (total left : ℕ) (act :
     → Rounded q s left (roundOf q s w total act g)
 unfolding roundOf
 rounded-of q s w total left act Missing h m r = record { room = h; made = m; reads = r; queue = kept-missing q }
-rounded-of q s w total left act (Samples n) h m r = record { room = h; made = m; reads = r; queue = kept-got q s w total n }
+rounded-of q s w total left act (Samples n) h m r = record { room = h; made = m; reads = r; queue = kept-got q (s .decoding) (s .«buffers_v2») w total n }
 
-renews-reads : (s : Source) (w : WaveBuffer) (offset : ℕ) → renewsOf s w offset ≡ true → readableOf (s .base) (s .size) (w .context) 6 ≡ true
+renews-reads : (s : Source) (w : WaveBuffer) (offset : ℕ) → renewsOf s w offset ≡ true → readableOf (s .ranges) (w .context) 6 ≡ true
 unfolding renewsOf
 renews-reads s w offset h =
     both (not (eqb (w .context) 0)) _ (both (eqb (s .format) 6) _ (both (eqb offset 0) _ h .1) .1) .1

@@ -5,14 +5,14 @@ use mathlib.Core.Path.{_≡_, refl, ap, sym, _∙_}
 use native.Mathlib.Omega.{arith}
 use borrow.Author.Tests.{eq-eqb, ne-eqb, leb-true, leb-false}
 use lib.Dec.{leb, eqb}
-use Rattle.memory.specs.Memory.{readableOf}
+use Rattle.ranges.specs.Ranges.{readableOf}
 use Rattle.adpcm.specs.Places.{nibbleOf, sizeOf}
 use Rattle.adpcm.specs.Runs.{countOf}
 use Rattle.adpcm.specs.declared.places.Sample.{Sample}
 use Rattle.voice.specs.Queue.{bufferAt}
 use Rattle.voice.specs.declared.wave.WaveBuffer.{WaveBuffer}
 use Rattle.voice.specs.declared.queue.Queue.{Queue}
-use Rattle.plan.specs.declared.Source.{Source}
+use Rattle.plan.specs.Source.{Source}
 use Rattle.plan.specs.declared.Act.{Act}
 use Rattle.plan.specs.declared.Decode.the-variants.{Nothing, Pcm, Adpcm, Silence}
 use Rattle.plan.specs.declared.attempt.Got.{Got}
@@ -27,12 +27,12 @@ use Rattle.plan.specs.Rounds.{afterMissing, afterLoop, spanOver, afterGo
 -- the frames there are, and whether they can be read
 pub pcm-made : (width : ℕ) (s : Source) (w : WaveBuffer) (start : Sample) (want : ℕ) {n addr : ℕ} {e b : Bool}
     → n ≡ min want (w .size / (width * s .channels) - start .0) → eqb n 0 ≡ e → addr ≡ (w .addr + start .0 * (width * s .channels)) % 2 ^ 64
-    → readableOf (s .base) (s .size) addr (n * (width * s .channels)) ≡ b
+    → readableOf (s .ranges) addr (n * (width * s .channels)) ≡ b
     → cond e noSamples (cond b (record { got = Samples n; decode = Pcm width addr n }) noSamples) ≡ pcmPlan width s w start want
 unfolding pcmPlan
 pcm-made width s w start want hn he ha hb = λ i.
     cond ((sym he ∙ ap (λ (x : ℕ). eqb x 0) hn) i) noSamples
-    (cond ((sym hb ∙ (λ j. readableOf (s .base) (s .size) (ha j) (hn j * (width * s .channels)))) i)
+    (cond ((sym hb ∙ (λ j. readableOf (s .ranges) (ha j) (hn j * (width * s .channels)))) i)
     (record { got = Samples (hn i); decode = Pcm width (ha i) (hn i) })
     noSamples)
 
@@ -44,7 +44,7 @@ none-by a b false e = ne-eqb (b - a) 0 (λ z. omega (arith, leb-false b a e))
 -- the bytes from first on, whether there are any, whether they can be read, and how many samples they hold
 pub adpcm-made : (s : Source) (w : WaveBuffer) (start : Sample) (want : ℕ) {first bytes addr n : ℕ} {e b z : Bool}
     → first ≡ nibbleOf (start .0) / 2 → bytes ≡ min (sizeOf (start .0 + want)) (w .size) - first → eqb bytes 0 ≡ e → addr ≡ (w .addr + first) % 2 ^ 64
-    → readableOf (s .base) (s .size) addr bytes ≡ b → n ≡ countOf bytes (start .0) want → eqb n 0 ≡ z
+    → readableOf (s .ranges) addr bytes ≡ b → n ≡ countOf bytes (start .0) want → eqb n 0 ≡ z
     → cond e noSamples (cond b (record { got = cond z Missing (Samples n); decode = Adpcm want addr bytes start }) noSamples) ≡ adpcmPlan s w start want
 unfolding adpcmPlan
 adpcm-made s w start want {n = n} hf hl he ha hb hn hz =
@@ -55,7 +55,7 @@ adpcm-made s w start want {n = n} hf hl he ha hb hn hz =
     let e = sym he ∙ (λ j. eqb (l j) 0) ∙ none-by (nibbleOf (start .0) / 2) last _ refl in
     λ i.
     cond (e i) noSamples
-    (cond ((sym hb ∙ (λ j. readableOf (s .base) (s .size) (a j) (l j))) i)
+    (cond ((sym hb ∙ (λ j. readableOf (s .ranges) (a j) (l j))) i)
     (record { got = cond ((sym hz ∙ (λ j. eqb (m j) 0)) i) Missing (Samples (m i)); decode = Adpcm want (a i) (l i) start })
     noSamples)
 
@@ -84,24 +84,24 @@ module _ (s : Source) (w : WaveBuffer) (start : Sample) (want : ℕ) where
 
 -- ---- the queue after a round
 
-pub loop-made : (q : Queue) (s : Source) (w : WaveBuffer) (got : ℕ) {loops : ℕ} {over t : Bool} {ended : Queue}
-    → loops ≡ (q .loops + 1) % 2 ^ 32 → over ≡ loopsOver (s .«buffers_v2») (w .«loop_count») loops got → ended ≡ endIf over (at 0 (q .played) loops q)
-    → resetsPlayed (s .decoding) got ≡ t → resetIf t ended ≡ afterLoop q s w got
+pub loop-made : (q : Queue) (decoding : ℕ) (v2 : Bool) (w : WaveBuffer) (got : ℕ) {loops : ℕ} {over t : Bool} {ended : Queue}
+    → loops ≡ (q .loops + 1) % 2 ^ 32 → over ≡ loopsOver v2 (w .«loop_count») loops got → ended ≡ endIf over (at 0 (q .played) loops q)
+    → resetsPlayed decoding got ≡ t → resetIf t ended ≡ afterLoop q decoding v2 w got
 unfolding afterLoop
-loop-made q s w got hl ho he ht =
-    let o = ho ∙ (λ j. loopsOver (s .«buffers_v2») (w .«loop_count») (hl j) got) in
+loop-made q decoding v2 w got hl ho he ht =
+    let o = ho ∙ (λ j. loopsOver v2 (w .«loop_count») (hl j) got) in
     let e = he ∙ (λ j. endIf (o j) (at 0 (q .played) (hl j) q)) in
     λ i. resetIf (sym ht i) (e i)
 
 -- the span goes on, or has ended, in a loop or not
-pub got-made : (q : Queue) (s : Source) (w : WaveBuffer) (total got : ℕ) {offset played : ℕ} {over loop : Bool} {looped ended : Queue}
+pub got-made : (q : Queue) (decoding : ℕ) (v2 : Bool) (w : WaveBuffer) (total got : ℕ) {offset played : ℕ} {over loop : Bool} {looped ended : Queue}
     → offset ≡ (q .offset + got) % 2 ^ 32 → played ≡ (q .played + got) % 2 ^ 64 → spanOver offset total got ≡ over → w .looping ≡ loop
-    → looped ≡ afterLoop (at offset played (q .loops) q) s w got → ended ≡ afterMissing (at offset played (q .loops) q)
+    → looped ≡ afterLoop (at offset played (q .loops) q) decoding v2 w got → ended ≡ afterMissing (at offset played (q .loops) q)
     → cond over (cond loop (record { queue = looped; going = not (eqb got 0) }) (record { queue = ended; going = true }))
-    (record { queue = at offset played (q .loops) q; going = true }) ≡ afterGot q s w total got
+    (record { queue = at offset played (q .loops) q; going = true }) ≡ afterGot q decoding v2 w total got
 unfolding afterGot
-got-made q s w total got hx hp ho hl hq hm =
-    let l = hq ∙ (λ j. afterLoop (at (hx j) (hp j) (q .loops) q) s w got) in
+got-made q decoding v2 w total got hx hp ho hl hq hm =
+    let l = hq ∙ (λ j. afterLoop (at (hx j) (hp j) (q .loops) q) decoding v2 w got) in
     let m = hm ∙ (λ j. afterMissing (at (hx j) (hp j) (q .loops) q)) in
     λ i.
     cond ((sym ho ∙ (λ j. spanOver (hx j) total got)) i)
@@ -115,7 +115,7 @@ pub missing-made : (q : Queue) (s : Source) (w : WaveBuffer) (total : ℕ) (act 
 unfolding roundOf
 missing-made q s w total act hg he = rw (hg, he)
 
-pub samples-made : (q : Queue) (s : Source) (w : WaveBuffer) (total : ℕ) (act : Act) {g : Got} {n : ℕ} {m : Moved} → g ≡ Samples n → m ≡ afterGot q s w total n
+pub samples-made : (q : Queue) (s : Source) (w : WaveBuffer) (total : ℕ) (act : Act) {g : Got} {n : ℕ} {m : Moved} → g ≡ Samples n → m ≡ afterGot q (s .decoding) (s .«buffers_v2») w total n
     → record { queue = m .queue; got = n; act = act; going = m .going } ≡ roundOf q s w total act g
 unfolding roundOf
 samples-made q s w total act hg hm = rw (hg, hm)

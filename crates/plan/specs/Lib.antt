@@ -1,3 +1,4 @@
+pub mod Source
 pub mod Attempt
 pub mod Rounds
 pub mod Laws

@@ -4,12 +4,12 @@ use mathlib.Core.Bool.{Bool, true, false, cond, not, _&&_, _||_}
 use mathlib.Core.List.{List, [], _∷_, _++_}
 use lib.Dec.{leb, ltb, eqb}
 use lib.ListN.{getD}
-use Rattle.memory.specs.Memory.{readableOf}
+use Rattle.ranges.specs.Ranges.{readableOf}
 use Rattle.voice.specs.Queue.{bufferAt, queueAt, endBuffer}
 use Rattle.voice.specs.declared.wave.WaveBuffer.{WaveBuffer}
 use Rattle.voice.specs.declared.queue.Queue.{Queue}
 use Rattle.plan.specs.Attempt.{sample, decodePlan}
-use Rattle.plan.specs.declared.Source.{Source}
+use Rattle.plan.specs.Source.{Source}
 use Rattle.plan.specs.declared.Act.{Act}
 use Rattle.plan.specs.declared.attempt.Got.{Got}
 use Rattle.plan.specs.declared.attempt.Got.the-variants.{Missing, Samples}
@@ -23,7 +23,7 @@ isPositive x = not (eqb x 0) && ltb x 0x80000000
 
 -- a buffer that begins gets its ADPCM context from memory
 unfoldable pub renewsOf : Source → WaveBuffer → ℕ → Bool
-renewsOf s w offset = eqb offset 0 && (eqb (s .format) 6 && (not (eqb (w .context) 0) && readableOf (s .base) (s .size) (w .context) 6))
+renewsOf s w offset = eqb offset 0 && (eqb (s .format) 6 && (not (eqb (w .context) 0) && readableOf (s .ranges) (w .context) 6))
 
 -- a buffer that has looped plays its loop span, from revision 8 on
 unfoldable pub inLoop : Bool → WaveBuffer → ℕ → Bool
@@ -61,13 +61,12 @@ resetIf b q = at (q .offset) (cond b 0 (q .played)) (q .loops) q
 abbrev pub endIf : Bool → Queue → Queue
 endIf over q = cond over (endBuffer q) q
 
-unfoldable pub afterLoop : Queue → Source → WaveBuffer → ℕ → Queue
+unfoldable pub afterLoop : Queue → ℕ → Bool → WaveBuffer → ℕ → Queue
 unfolding loopsOver resetsPlayed endBuffer
-afterLoop q s w got =
+afterLoop q decoding v2 w got =
     let loops = (q .loops + 1) % 2 ^ 32 in
     let looped = at 0 (q .played) loops q in
-    resetIf (resetsPlayed (s .decoding) got)
-    (endIf (loopsOver (s .«buffers_v2») (w .«loop_count») loops got) looped)
+    resetIf (resetsPlayed decoding got) (endIf (loopsOver v2 (w .«loop_count») loops got) looped)
 
 unfoldable pub spanOver : ℕ → ℕ → ℕ → Bool
 spanOver offset total got = leb total offset || eqb got 0
@@ -78,13 +77,13 @@ pub record Moved : Type 0 where
   pub going : Bool
 
 -- after samples of a span of total
-unfoldable pub afterGot : Queue → Source → WaveBuffer → ℕ → ℕ → Moved
+unfoldable pub afterGot : Queue → ℕ → Bool → WaveBuffer → ℕ → ℕ → Moved
 unfolding afterMissing afterLoop spanOver
-afterGot q s w total got =
+afterGot q decoding v2 w total got =
     let moved = at ((q .offset + got) % 2 ^ 32) ((q .played + got) % 2 ^ 64) (q .loops) q in
     cond (spanOver (moved .offset) total got)
     (cond (w .looping)
-    (record { queue = afterLoop moved s w got; going = not (eqb got 0) })
+    (record { queue = afterLoop moved decoding v2 w got; going = not (eqb got 0) })
     (record { queue = afterMissing moved; going = true }))
     (record { queue = moved; going = true })
 
@@ -99,7 +98,9 @@ pub record Round : Type 0 where
 unfoldable pub roundOf : Queue → Source → WaveBuffer → ℕ → Act → Got → Round
 unfolding afterMissing afterGot
 roundOf q s w total act Missing = record { queue = afterMissing q; got = 0; act = act; going = true }
-roundOf q s w total act (Samples n) = record { queue = afterGot q s w total n .queue; got = n; act = act; going = afterGot q s w total n .going }
+roundOf q s w total act (Samples n) =
+    let moved = afterGot q (s .decoding) (s .«buffers_v2») w total n in
+    record { queue = moved .queue; got = n; act = act; going = moved .going }
 
 -- one round, of at most left samples
 unfoldable pub roundPlan : Queue → Source → ℕ → Round
@@ -140,7 +141,7 @@ rounds (suc n) true s count p =
 
 -- an ADPCM voice's coefficients can be read
 unfoldable pub hasTable : Source → Bool
-hasTable s = eqb (s .format) 6 && readableOf (s .base) (s .size) (s .«data_source») 32
+hasTable s = eqb (s .format) 6 && readableOf (s .ranges) (s .«data_source») 32
 
 unfoldable pub planOf : Queue → Source → ℕ → Planned
 unfolding rounds more hasTable

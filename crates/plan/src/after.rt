@@ -60,7 +60,8 @@ fn end_if(p: Spot, wb: WaveBuffer, over: bool) -> Spot
 // Where nothing was got no other round follows.
 fn after_loop(mut p: Spot, s: Source, wb: WaveBuffer, got: u32) -> Spot
     requires { ⌜ p .index < 4 ⌝ }
-    ensures { λ r. ⌜ ((b : List WaveBuffer) → getD b (p .index) noBuffer ≡ wb → queueAt b r ≡ afterLoop (queueAt b p) s wb got) ⌝ }
+    ensures { λ r. ⌜ ((b : List WaveBuffer) → getD b (p .index) noBuffer ≡ wb
+        → queueAt b r ≡ afterLoop (queueAt b p) (s .decoding) (s .«buffers_v2») wb got) ⌝ }
 {
     let loops = std::num::wrapping_add_u32(p.loops, 1);
     let over = loops_over(s.buffers_v2, wb.loop_count, loops, got);
@@ -86,7 +87,8 @@ fn resets(decoding: u32, got: u32) -> bool
 // What the samples of a round, of a span of total, make of the spot.
 pub fn after_got(mut p: Spot, s: Source, wb: WaveBuffer, total: u32, got: u32) -> Next
     requires { ⌜ p .index < 4 ⌝ }
-    ensures { λ r. ⌜ ((b : List WaveBuffer) → getD b (p .index) noBuffer ≡ wb → movedAt b r ≡ afterGot (queueAt b p) s wb total got) ⌝ }
+    ensures { λ r. ⌜ ((b : List WaveBuffer) → getD b (p .index) noBuffer ≡ wb
+        → movedAt b r ≡ afterGot (queueAt b p) (s .decoding) (s .«buffers_v2») wb total got) ⌝ }
 {
     p.offset = std::num::wrapping_add_u32(p.offset, got);
     p.played = std::num::wrapping_add_u64(p.played, got as u64);

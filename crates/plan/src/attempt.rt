@@ -1,6 +1,7 @@
 // The plan of `decode` of mixer.rs: how many samples a wave buffer gives from a place on, and what is read for them.
 ghost use mathlib.Core.Path.{_≡_};
 ghost use Prim.Native.Nat.{_-_, _≤_, _<_, _^_, min};
+ghost use Rattle.plan.specs.Source.{over};
 ghost use Rattle.plan.specs.Attempt.{noSamples, pcmPlan, adpcmPlan, decodePlan};
 use crate::Decode;
 use crate::Source;
@@ -30,11 +31,18 @@ fn missing() -> Attempt
 }
 
 // PCM of a width in bytes: as many frames as the buffer has from start on, at most want, if they can be read.
-fn plan_pcm(width: u32, s: Source, wb: WaveBuffer, start: Sample, want: u32) -> Attempt
+fn plan_pcm(
+    width: u32,
+    s: Source,
+    ranges: &[u64],
+    wb: WaveBuffer,
+    start: Sample,
+    want: u32,
+) -> Attempt
     requires { ⌜ (0 < width) × (width ≤ 4) ⌝ }
     requires { ⌜ (0 < s .channels) × (s .channels ≤ 6) ⌝ }
     requires { ⌜ (start .0 < 2 ^ 32) × (want ≤ 2 ^ 16) ⌝ }
-    ensures { λ r. ⌜ r ≡ pcmPlan width s wb start want ⌝ }
+    ensures { λ r. ⌜ r ≡ pcmPlan width (over s (now (ranges .entry))) wb start want ⌝ }
 {
     let frame = (width * s.channels) as u64;
     let frames = wb.size / frame;
@@ -43,7 +51,7 @@ fn plan_pcm(width: u32, s: Source, wb: WaveBuffer, start: Sample, want: u32) -> 
         return missing();
     }
     let addr = std::num::wrapping_add_u64(wb.addr, start.0 * frame);
-    if memory::readable(s.base, s.size, addr, n as u64 * frame) {
+    if ranges::readable(ranges, addr, n as u64 * frame) {
         return Attempt {
             got: Got::Samples(n),
             decode: Decode::Pcm(width, addr, n),
@@ -72,9 +80,9 @@ fn least(a: u64, b: u64) -> u64
 }
 
 // ADPCM: the bytes from the one that holds the start's nibble to the end of the wanted samples or of the buffer.
-fn plan_adpcm(s: Source, wb: WaveBuffer, start: Sample, want: u32) -> Attempt
+fn plan_adpcm(s: Source, ranges: &[u64], wb: WaveBuffer, start: Sample, want: u32) -> Attempt
     requires { ⌜ (start .0 < 2 ^ 32) × (want ≤ 2 ^ 16) ⌝ }
-    ensures { λ r. ⌜ r ≡ adpcmPlan s wb start want ⌝ }
+    ensures { λ r. ⌜ r ≡ adpcmPlan (over s (now (ranges .entry))) wb start want ⌝ }
 {
     let first = adpcm::adpcm_nibble_byte(start);
     let wanted = adpcm::adpcm_size(start.plus(want as u64)).past(first);
@@ -83,7 +91,7 @@ fn plan_adpcm(s: Source, wb: WaveBuffer, start: Sample, want: u32) -> Attempt
         return missing();
     }
     let addr = std::num::wrapping_add_u64(wb.addr, first.0);
-    if memory::readable(s.base, s.size, addr, bytes) {
+    if ranges::readable(ranges, addr, bytes) {
         let n = adpcm::adpcm_count(bytes, start, want);
         let decode = Decode::Adpcm(want, addr, bytes, start);
         if n == 0 {
@@ -101,10 +109,10 @@ fn plan_adpcm(s: Source, wb: WaveBuffer, start: Sample, want: u32) -> Attempt
 }
 
 // What a decode of want samples from start on gives.
-pub fn plan_decode(s: Source, wb: WaveBuffer, start: Sample, want: u32) -> Attempt
+pub fn plan_decode(s: Source, ranges: &[u64], wb: WaveBuffer, start: Sample, want: u32) -> Attempt
     requires { ⌜ (0 < s .channels) × (s .channels ≤ 6) ⌝ }
     requires { ⌜ (start .0 < 2 ^ 32) × (want ≤ 2 ^ 16) ⌝ }
-    ensures { λ r. ⌜ r ≡ decodePlan s wb start want ⌝ }
+    ensures { λ r. ⌜ r ≡ decodePlan (over s (now (ranges .entry))) wb start want ⌝ }
 {
     if want == 0 {
         return Attempt {
@@ -113,13 +121,13 @@ pub fn plan_decode(s: Source, wb: WaveBuffer, start: Sample, want: u32) -> Attem
         };
     }
     if s.format == voice::PCM_INT16 {
-        return plan_pcm(2, s, wb, start, want);
+        return plan_pcm(2, s, ranges, wb, start, want);
     }
     if s.format == voice::PCM_FLOAT {
-        return plan_pcm(4, s, wb, start, want);
+        return plan_pcm(4, s, ranges, wb, start, want);
     }
     if s.format == voice::ADPCM {
-        return plan_adpcm(s, wb, start, want);
+        return plan_adpcm(s, ranges, wb, start, want);
     }
     Attempt {
         got: Got::Samples(want),

@@ -14,15 +14,13 @@ pub use rounds::plan_round;
 ghost use mathlib.Core.Path.{_≡_};
 use adpcm::Sample;
 
-// What a fetch takes from its voice and from the render and does not change: base and size are sample memory's.
+// What a fetch takes from its voice and from the render and does not change. The ranges of sample memory are lent beside it.
 pub struct Source {
     pub format: u32,
     pub channels: u32,
     pub decoding: u32,
     pub data_source: u64,
     pub buffers_v2: bool,
-    pub base: u64,
-    pub size: u64,
 }
 
 // What a round reads of sample memory, with the samples that it makes of it for each channel.

@@ -6,6 +6,7 @@ ghost use mathlib.Core.List.{List};
 ghost use lib.ListN.{getD};
 ghost use Rattle.voice.specs.declared.wave.WaveBuffer.{WaveBuffer};
 ghost use Rattle.voice.specs.Queue.{noBuffer, queueAt};
+ghost use Rattle.plan.specs.Source.{over};
 ghost use Rattle.plan.specs.Rounds.{isPositive, renewsOf, inLoop, roundPlan, more, hasTable, planOf, roundAt, withoutActs};
 use crate::Act;
 use crate::Source;
@@ -34,8 +35,8 @@ pub struct Step {
 }
 
 // Whether a buffer that begins gets its ADPCM context from memory.
-fn context_read(s: Source, wb: WaveBuffer, offset: u32) -> bool
-    ensures { λ r. ⌜ r ≡ renewsOf s wb offset ⌝ }
+fn context_read(s: Source, ranges: &[u64], wb: WaveBuffer, offset: u32) -> bool
+    ensures { λ r. ⌜ r ≡ renewsOf (over s (now (ranges .entry))) wb offset ⌝ }
 {
     if offset != 0 {
         return false;
@@ -46,7 +47,7 @@ fn context_read(s: Source, wb: WaveBuffer, offset: u32) -> bool
     if wb.context == 0 {
         return false;
     }
-    memory::readable(s.base, s.size, wb.context, 6)
+    ranges::readable(ranges, wb.context, 6)
 }
 
 // Whether a buffer that has looped plays its loop span: from revision 8 on, if it has one.
@@ -98,20 +99,21 @@ fn either(test: bool, a: u32, b: u32) -> u32
 }
 
 // One round, of at most left samples, of wb, the buffer that plays.
-pub fn plan_round(wb: WaveBuffer, p: Spot, s: Source, left: u32) -> Step
+pub fn plan_round(wb: WaveBuffer, p: Spot, s: Source, ranges: &[u64], left: u32) -> Step
     requires { ⌜ p .index < 4 ⌝ }
     requires { ⌜ (0 < s .channels) × (s .channels ≤ 6) ⌝ }
     requires { ⌜ left ≤ 2 ^ 16 ⌝ }
-    ensures { λ r. ⌜ ((b : List WaveBuffer) → getD b (p .index) noBuffer ≡ wb → roundAt b r ≡ roundPlan (queueAt b p) s left) ⌝ }
+    ensures { λ r. ⌜ ((b : List WaveBuffer) → getD b (p .index) noBuffer ≡ wb
+        → roundAt b r ≡ roundPlan (queueAt b p) (over s (now (ranges .entry))) left) ⌝ }
 {
-    let renews = context_read(s, wb, p.offset);
+    let renews = context_read(s, ranges, wb, p.offset);
     let looped = in_loop(s.buffers_v2, wb, p.loops);
     let start = either(looped, wb.loop_start, wb.start);
     let end = either(looped, wb.loop_end, wb.end);
     let total = saturating_sub(end, start);
     let want = least(left, saturating_sub(total, p.offset));
     let pos = std::num::wrapping_add_u32(start, p.offset) as u64;
-    let tried = crate::plan_decode(s, wb, Sample(pos), want);
+    let tried = crate::plan_decode(s, ranges, wb, Sample(pos), want);
     let decode = tried.decode;
     let act = Act {
         renews,
@@ -155,11 +157,11 @@ pub fn begins(p: Spot, going: bool, done: u32, count: u32) -> bool
 }
 
 // The plan of a fetch of count samples. Its acts are not kept: `sound::fetch_channel` goes through the rounds again.
-pub fn plan_fetch(q: Queue, s: Source, count: u32) -> Plan
+pub fn plan_fetch(q: Queue, s: Source, ranges: &[u64], count: u32) -> Plan
     requires { ⌜ q .index < 4 ⌝ }
     requires { ⌜ (0 < s .channels) × (s .channels ≤ 6) ⌝ }
     requires { ⌜ count ≤ 2 ^ 16 ⌝ }
-    ensures { λ r. ⌜ r ≡ withoutActs (planOf q s count) ⌝ }
+    ensures { λ r. ⌜ r ≡ withoutActs (planOf q (over s (now (ranges .entry))) count) ⌝ }
 {
     let buffers = q.buffers;
     let mut spot = voice::spot_of(q);
@@ -169,7 +171,7 @@ pub fn plan_fetch(q: Queue, s: Source, count: u32) -> Plan
     while rounds < 64 && going {
         let at = spot.index as usize;
         let wb = buffers[at];
-        let r = plan_round(wb, spot, s, count - done);
+        let r = plan_round(wb, spot, s, ranges, count - done);
         let next = r.spot;
         spot = next;
         done += r.got;
@@ -180,16 +182,16 @@ pub fn plan_fetch(q: Queue, s: Source, count: u32) -> Plan
         queue: voice::queue_at(buffers, spot),
         rounds,
         done,
-        table: table_read(s),
+        table: table_read(s, ranges),
     }
 }
 
 // Whether the coefficients of an ADPCM voice can be read.
-fn table_read(s: Source) -> bool
-    ensures { λ r. ⌜ r ≡ hasTable s ⌝ }
+fn table_read(s: Source, ranges: &[u64]) -> bool
+    ensures { λ r. ⌜ r ≡ hasTable (over s (now (ranges .entry))) ⌝ }
 {
     if s.format != voice::ADPCM {
         return false;
     }
-    memory::readable(s.base, s.size, s.data_source, 32)
+    ranges::readable(ranges, s.data_source, 32)
 }

@@ -16,7 +16,7 @@ use Rattle.adpcm.specs.declared.context.AdpcmContext.{AdpcmContext}
 use Rattle.resample.specs.Defs.{resampled}
 use Rattle.voice.specs.declared.sound.History.{History}
 use Rattle.voice.specs.declared.sound.Sound.{Sound}
-use Rattle.plan.specs.declared.Source.{Source}
+use Rattle.plan.specs.Source.{Source}
 use Rattle.voice.specs.declared.queue.Queue.{Queue}
 use Rattle.plan.specs.Rounds.{hasTable, planOf}
 use Rattle.plan.specs.Fits.{plan-table}
@@ -34,7 +34,7 @@ ready-same e r = record {
   index = r .index;
   some = r .some;
   channels = r .channels;
-  size = r .size;
+  memory = r .memory;
 }
 
 -- the coefficients of a fetch

@@ -10,7 +10,8 @@ use lib.ListN.{length, length-append, length-replicate}
 use Rattle.rows.specs.Rows.{put, length-part, length-put}
 use Rattle.rows.specs.Folds.{upTo, row-end}
 use Rattle.resample.specs.Laws.{length-resampled}
-use Rattle.plan.specs.declared.Source.{Source}
+use Rattle.ranges.specs.Ascending.{Ascending}
+use Rattle.plan.specs.Source.{Source}
 use Rattle.plan.specs.declared.Act.{Act}
 use Rattle.plan.specs.Fits.{made-le, Fits, fits-none, fits-more}
 use Rattle.sound.specs.Sound.{Deck, tableOf, perform, performAll, rowOf}
@@ -36,7 +37,7 @@ length-out w out l =
 -- ---- the history
 
 -- acts that fit make as many samples as the plan says
-all-long : {s : Source} {count made done : ℕ} {acts : List Act} (m : List ℕ) (table : List ℤ) (c : ℕ) (k : Deck) → Fits s count made acts done → s .size ≡ length m
+all-long : {s : Source} {count made done : ℕ} {acts : List Act} (m : List ℕ) (table : List ℤ) (c : ℕ) (k : Deck) → Fits s count made acts done → Ascending (length m) 0 (s .ranges)
     → length (k .out) ≡ made → length (performAll s m table c acts k .out) ≡ done
 unfolding performAll
 all-long m table c k fits-none z e = e
@@ -51,13 +52,13 @@ fits-upto : {s : Source} {count made done : ℕ} {acts : List Act} → Fits s co
 fits-upto fits-none l = l
 fits-upto (fits-more {a = a} h r f) l = fits-upto f (omega (arith, made-le (a .decode)))
 
-module _ (w : Material) (eighteen : length (w .sound .history .samples) ≡ 18) (six : w .source .channels ≤ 6) (size : w .source .size ≡ length (w .memory))
+module _ (w : Material) (eighteen : length (w .sound .history .samples) ≡ 18) (six : w .source .channels ≤ 6) (laid : Ascending (length (w .memory)) 0 (w .source .ranges))
     (fits : Fits (w .source) (w .needed) 0 (w .plan .acts) (w .plan .done)) where
   pub length-row : (c : ℕ) → c < 6 → length (channelRow w c) ≡ 3 + w .needed
   unfolding channelRow deckOf rowOf
   length-row c h =
       let three = length-part 3 (c * 3) (w .sound .history .samples) (omega arith) in
-      let made = all-long (w .memory) (tableOf (w .plan .table) (w .source) (w .memory)) c (fresh (w .sound .adpcm)) fits size refl in
+      let made = all-long (w .memory) (tableOf (w .plan .table) (w .source) (w .memory)) c (fresh (w .sound .adpcm)) fits laid refl in
       simp (length-append, length-replicate) (omega (arith, three, made, fits-upto fits (omega arith)))
 
   pub length-history : length (playedHistory w) ≡ 18

@@ -8,7 +8,7 @@ use Rattle.rows.specs.Rows.{part, put}
 use Rattle.rows.specs.Folds.{upTo}
 use Rattle.resample.specs.Defs.{resampled}
 use Rattle.voice.specs.declared.sound.Sound.{Sound}
-use Rattle.plan.specs.declared.Source.{Source}
+use Rattle.plan.specs.Source.{Source}
 use Rattle.voice.specs.declared.queue.Queue.{Queue}
 use Rattle.plan.specs.Rounds.{Planned, planOf}
 use Rattle.sound.specs.Sound.{Deck, tableOf, performAll, rowOf}

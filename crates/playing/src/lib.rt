@@ -11,6 +11,7 @@ ghost use lib.Dec.{eqb};
 ghost use lib.ListN.{length};
 ghost use Rattle.rows.specs.Rows.{put};
 ghost use Rattle.resample.specs.Defs.{resampled};
+ghost use Rattle.plan.specs.Source.{over};
 ghost use Rattle.plan.specs.Rounds.{hasTable};
 ghost use Rattle.sound.specs.Sound.{tableOf};
 ghost use Rattle.sound.specs.Channel.{Ready};
@@ -62,6 +63,7 @@ fn hear(row: &[f32], ratio: f32, fraction: f32, n: u32, c: u32, out: &mut [f32])
 fn play_channel(
     q: Queue,
     s: Source,
+    ranges: &[u64],
     memory: &[u8],
     coefficients: &[i16; 16],
     before: Sound,
@@ -73,17 +75,19 @@ fn play_channel(
     src: &mut [f32],
     out: &mut [f32],
 ) -> Sound
-    requires { ⌜ Ready q s (now memory) (now src) ⌝ }
-    requires { ⌜ now coefficients ≡ tableOf (hasTable s) s (now memory) ⌝ }
-    requires { ⌜ (c < 6) × (n ≤ 256) × (c * n + n ≤ length (now out)) ⌝ }
-    ensures { λ r. ⌜ r ≡ soundStep (material q s (now (memory .entry)) (length (now (src .entry)) - 3) before ratio fraction n) c kept ⌝ }
+    requires { ⌜ Ready q (over s (now ranges)) (now memory) (now src) ⌝ }
+    requires { ⌜ now coefficients ≡ tableOf (hasTable (over s (now ranges))) (over s (now ranges)) (now memory) ⌝ }
+    requires { ⌜ (c < s .channels) × (n ≤ 256) × (c * n + n ≤ length (now out)) ⌝ }
+    ensures { λ r. ⌜ r ≡ soundStep (material q (over s (now (ranges .entry)))
+        (now (memory .entry)) (length (now (src .entry)) - 3) before ratio fraction n) c kept ⌝ }
     ensures { λ _. ⌜ now (out .exit)
-        ≡ outStep (material q s (now (memory .entry)) (length (now (src .entry)) - 3) before ratio fraction n) c (now (out .entry)) ⌝ }
+        ≡ outStep (material q (over s (now (ranges .entry)))
+        (now (memory .entry)) (length (now (src .entry)) - 3) before ratio fraction n) c (now (out .entry)) ⌝ }
 {
     let history = before.history;
     let adpcm = before.adpcm;
     let three = three_of(history, c);
-    let made = sound::fetch_channel(q, s, memory, coefficients, adpcm, three, c, src);
+    let made = sound::fetch_channel(q, s, ranges, memory, coefficients, adpcm, three, c, src);
     hear(src, ratio, fraction, n, c, out);
     let old = kept.history;
     let history = with_tail(old, c, src);
@@ -97,6 +101,7 @@ fn play_channel(
 pub fn play_channels(
     q: Queue,
     s: Source,
+    ranges: &[u64],
     table: bool,
     memory: &[u8],
     sound: Sound,
@@ -106,20 +111,23 @@ pub fn play_channels(
     src: &mut [f32],
     out: &mut [f32],
 ) -> Sound
-    requires { ⌜ Ready q s (now memory) (now src) ⌝ }
-    requires { ⌜ table ≡ hasTable s ⌝ }
+    requires { ⌜ Ready q (over s (now ranges)) (now memory) (now src) ⌝ }
+    requires { ⌜ table ≡ hasTable (over s (now ranges)) ⌝ }
     requires { ⌜ (s .channels * n ≤ length (now out)) × (n ≤ 256) ⌝ }
-    ensures { λ r. ⌜ r ≡ playedSound (material q s (now (memory .entry)) (length (now (src .entry)) - 3) sound ratio fraction n) ⌝ }
+    ensures { λ r. ⌜ r ≡ playedSound (material q (over s (now (ranges .entry)))
+        (now (memory .entry)) (length (now (src .entry)) - 3) sound ratio fraction n) ⌝ }
     ensures { λ _. ⌜ now (out .exit)
-        ≡ playedOut (material q s (now (memory .entry)) (length (now (src .entry)) - 3) sound ratio fraction n) (now (out .entry)) ⌝ }
+        ≡ playedOut (material q (over s (now (ranges .entry)))
+        (now (memory .entry)) (length (now (src .entry)) - 3) sound ratio fraction n) (now (out .entry)) ⌝ }
 {
-    let coefficients = sound::coefficients(memory, s, table);
+    let coefficients = sound::coefficients(ranges, memory, s, table);
     let mut kept = sound;
     let mut c: u32 = 0;
     while c < s.channels {
         kept = play_channel(
             q,
             s,
+            ranges,
             memory,
             &coefficients,
             sound,

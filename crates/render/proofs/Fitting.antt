@@ -9,8 +9,10 @@ use lib.ListN.{length, take, replicate, length-replicate}
 use Rattle.floats.specs.Defs.{zero32}
 use Rattle.params.specs.declared.params.Params.{Params}
 use Rattle.state.specs.State.{State}
-use Rattle.turn.specs.declared.Render.{Render}
-use Rattle.render.specs.Render.{Playing, renderOf, renderedOn, renderedBy}
+use Rattle.ranges.specs.Ranges.{Range}
+use Rattle.turn.specs.Render.{Render}
+use Rattle.render_turns.specs.Turns.{Playing}
+use Rattle.render.specs.Render.{renderOf, renderedOn, renderedBy}
 use Rattle.render.specs.Laws.{take-replicate}
 use Rattle.render.specs.Rooms.{floatsFor, Blank, Rows, roomFloats, roomSamples, Fits}
 
@@ -72,7 +74,7 @@ samples-few (suc k) samples h l = absurd (omega arith)
 
 -- ---- a render
 
-pub blank-rendered : (p : Params) (base : ℕ) (m : List ℕ) (st : State) (buffers frames : List Float) → Blank p buffers
-    → renderedOn p (renderOf p base (length m)) m st (take (floatsFor p) buffers) frames ≡ renderedBy p base m st frames
+pub blank-rendered : (p : Params) (rs : List Range) (m : List ℕ) (st : State) (buffers frames : List Float) → Blank p buffers
+    → renderedOn p (renderOf p rs) m st (take (floatsFor p) buffers) frames ≡ renderedBy p rs m st frames
 unfolding renderedBy
-blank-rendered p base m st buffers frames b = ap (λ (x : List Float). renderedOn p (renderOf p base (length m)) m st x frames) (b .zeros)
+blank-rendered p rs m st buffers frames b = ap (λ (x : List Float). renderedOn p (renderOf p rs) m st x frames) (b .zeros)

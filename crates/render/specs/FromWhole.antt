@@ -16,11 +16,14 @@ use Rattle.sound_rows.specs.Spelled.{part-at}
 use Rattle.voice_rows.specs.WaveRow.{flagOf}
 use Rattle.voice_rows.specs.VoiceRow.{voiceOf}
 use Rattle.voice_sends.specs.Sending.{Ids}
+use Rattle.ranges.specs.Ranges.{Range}
+use Rattle.ranges.specs.Ascending.{Ascending}
 use Rattle.row_tests.specs.Voices.{VoiceWhole}
 use Rattle.whole.specs.Whole.{Whole}
 use Rattle.state_voices.specs.StateVoices.{Playable, voiceOn}
 use Rattle.voice_turn.specs.Asks.{Renderable}
-use Rattle.render.specs.Render.{Playing, renderOf}
+use Rattle.render_turns.specs.Turns.{Playing}
+use Rattle.render.specs.Render.{renderOf}
 
 -- a flag that is set is no 0
 set-flag : (w : ℕ) → flagOf w ≡ true → w ≡ 0 → ⊥
@@ -74,9 +77,10 @@ module _ (p : Params) (st : State) (j : ℕ) (inside : j < p .voices) where
         fraction = subst (λ (x : Float). T (inUnit x)) (sym (float 3 (omega arith))) (w .fraction);
       }
 
-pub whole-playing : (st : State) → Whole st → (base : ℕ) (m : List ℕ) → Playing (paramsIn st) (renderOf (paramsIn st) base (length m)) m 0 st
+pub whole-playing : (st : State) → Whole st → (rs : List Range) (m : List ℕ) → Ascending (length m) 0 rs
+    → Playing (paramsIn st) (renderOf (paramsIn st) rs) m 0 st
 unfolding renderOf
-whole-playing st h base m = record {
-  desk = record { allowed = h .allowed; sized = h .sized; mixes = h .mixes; lists = h .lists; samples = refl; memory = refl };
+whole-playing st h rs m laid = record {
+  desk = record { allowed = h .allowed; sized = h .sized; mixes = h .mixes; lists = h .lists; samples = refl; memory = laid };
   voices = λ j l b. playable (paramsIn st) st j b (h .allowed .voices) (h .voices j b);
 }

@@ -1,4 +1,4 @@
--- What a render needs holds after each voice; and of the count of renders, of silence, and of what the steps leave. Assumes nothing.
+-- Of the count of renders, of silence, and of what the steps of a render leave. Assumes nothing.
 use mathlib.Core.Path.{_≡_, refl, ap, sym, subst, _∙_}
 use mathlib.Core.List.{List, [], _∷_, _++_}
 use Prim.Native.Nat.{ℕ, zero, suc, _+_, _*_, _^_, _%_, _≤_, _<_}
@@ -7,35 +7,18 @@ use lib.Ieee.{Float, nan}
 use lib.ListN.{length, take, drop, getD, set, replicate, length-set, length-append, length-replicate, getD-replicate, List·getD-append}
 use Rattle.floats.specs.Defs.{zero32}
 use Rattle.rows.specs.Rows.{part, part-put-after, put-one}
-use Rattle.rows.specs.Folds.{upTo}
 use Rattle.params.specs.declared.params.Params.{Params}
 use Rattle.state.specs.State.{State, stateOf}
-use Rattle.turn.specs.declared.Render.{Render}
+use Rattle.turn.specs.Render.{Render}
 use Rattle.sink.specs.Sink.{Silent}
 use Rattle.voice_rows.specs.VoiceRow.{voiceOf}
-use Rattle.state_voices.specs.StateVoices.{Playable, voiceOn, voiceIn}
+use Rattle.state_voices.specs.StateVoices.{voiceOn, voiceIn}
 use Rattle.state_voices.specs.StateVoices as Voices
 use Rattle.voice_turn.specs.Played.{Studio, studio}
-use Rattle.voice_turn.specs.Asks.{Renderable}
-use Rattle.voice_render.specs.RenderVoice.{renderVoice}
-use Rattle.voice_render.specs.Laws.{render-renderable, render-others}
 use Rattle.desk_render.specs.DeskRender.{Mixable}
-use Rattle.render.specs.Render.{voicesRendered, elapsed, Playing, Rendered, rendered, renderedOn, framesAfter}
-
--- ---- after each voice
-
-pub playing-after : (p : Params) (r : Render) (m : List ℕ) (x : Studio) → Playing p r m 0 (x .state) → (k : ℕ) → k ≤ p .voices
-    → Playing p r m k (voicesRendered p r m k x .state)
-unfolding voicesRendered upTo
-playing-after p r m x h zero l = h
-playing-after p r m x h (suc k) l =
-    let g = playing-after p r m x h k (omega arith) in
-    let y = voicesRendered p r m k x in
-    let playable = g .voices k (omega arith) l in
-    record {
-      desk = render-renderable (g .desk) l playable (y .buffers) (y .rounds);
-      voices = λ j q b. render-others (g .desk) l playable (y .buffers) (y .rounds) j b (λ (e : j ≡ k). omega arith) (g .voices j (omega arith) b);
-    }
+use Rattle.render_turns.specs.Turns.{voicesRendered, Playing}
+use Rattle.render_turns.proofs.After.{playing-after}
+use Rattle.render.specs.Render.{elapsed, Rendered, rendered, renderedOn, framesAfter}
 
 -- the desk can be mixed down
 pub mixable : {p : Params} {r : Render} {m : List ℕ} {k : ℕ} {st : State} → Playing p r m k st → Mixable p (st .words) (st .floats)

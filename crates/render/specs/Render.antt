@@ -1,38 +1,30 @@
 -- A render (mixer.rs `render`): every voice in turn, then the sub-mixes and the sink. Definitions only.
-use mathlib.Core.Path.{_≡_}
 use mathlib.Core.List.{List, _++_}
-use Prim.Native.Nat.{ℕ, _+_, _*_, _^_, _%_, _≤_, _<_}
+use Prim.Native.Nat.{ℕ, _+_, _*_, _^_, _%_}
 use lib.Dec.{leb}
 use lib.Ieee.{Float}
-use lib.ListN.{length, drop, getD, set, replicate}
+use lib.ListN.{drop, getD, set, replicate}
 use Rattle.floats.specs.Defs.{zero32}
-use Rattle.rows.specs.Folds.{upTo}
 use Rattle.params.specs.declared.params.Params.{Params}
 use Rattle.params.specs.Sizes.{revisionOf}
 use Rattle.state.specs.State.{State, stateOf}
-use Rattle.turn.specs.declared.Render.{Render}
-use Rattle.state_voices.specs.StateVoices.{Playable}
+use Rattle.ranges.specs.Ranges.{Range}
+use Rattle.turn.specs.Render.{Render}
 use Rattle.voice_turn.specs.Played.{Studio, studio}
-use Rattle.voice_turn.specs.Asks.{Renderable}
-use Rattle.voice_render.specs.RenderVoice.{renderVoice}
+use Rattle.render_turns.specs.Turns.{voicesRendered}
 use Rattle.desk_render.specs.DeskRender.{mixedBy, framesBy}
-
--- the voices in turn, from their first
-unfoldable pub voicesRendered : Params → Render → List ℕ → ℕ → Studio → Studio
-voicesRendered p r m k x = upTo (renderVoice p r m) k x
 
 -- one render more has elapsed; the count goes round at 2 ^ 64
 unfoldable pub elapsed : State → State
 elapsed st = stateOf (st .words) (set (st .longs) 0 ((getD (st .longs) 0 0 + 1) % 2 ^ 64)) (st .floats) (st .contexts) (st .history)
 
 -- what a render gives to each voice: revision 8 has wave buffers with loop points of their own
-unfoldable pub renderOf : Params → ℕ → ℕ → Render
-renderOf p base size = record {
+unfoldable pub renderOf : Params → List Range → Render
+renderOf p rs = record {
   «sample_count» = p .«sample_count»;
   «sample_rate» = p .«sample_rate»;
   «buffers_v2» = leb 8 (revisionOf p);
-  base = base;
-  size = size;
+  ranges = rs;
 }
 
 -- what a render leaves: the state, the rounds of its fetches, and the frame slice
@@ -58,10 +50,5 @@ renderedOn p r m st buffers frames =
     rendered (x .state) (x .rounds) (framesAfter p (x .state) (x .buffers) frames)
 
 -- a render: the mix buffers are silent before it
-unfoldable pub renderedBy : Params → ℕ → List ℕ → State → List Float → Rendered
-renderedBy p base m st frames = renderedOn p (renderOf p base (length m)) m st (replicate (p .«mix_buffers» * p .«sample_count») zero32) frames
-
--- what a render needs of a state: the desk, and each voice that is still to come
-pub record Playing (p : Params) (r : Render) (m : List ℕ) (k : ℕ) (st : State) : Type 0 where
-  pub desk : Renderable p r m st
-  pub voices : (j : ℕ) → k ≤ j → j < p .voices → Playable p j st
+unfoldable pub renderedBy : Params → List Range → List ℕ → State → List Float → Rendered
+renderedBy p rs m st frames = renderedOn p (renderOf p rs) m st (replicate (p .«mix_buffers» * p .«sample_count») zero32) frames

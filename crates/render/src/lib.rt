@@ -1,13 +1,16 @@
 // A render (mixer.rs `render`): every voice in turn, then the sub-mixes and the sink.
 mod rooms;
-mod turns;
 
 ghost use mathlib.Core.Path.{_≡_};
-ghost use Prim.Native.Nat.{_+_, _*_, _^_, _%_, _≤_};
+ghost use mathlib.Core.List.{List};
+ghost use Prim.Native.Nat.{ℕ, _+_, _*_, _^_, _%_, _≤_};
 ghost use lib.ListN.{length, getD, set};
 ghost use Rattle.state.specs.State.{stateOf};
 ghost use Rattle.desk_render.specs.DeskRender.{Mixable};
-ghost use Rattle.render.specs.Render.{Playing, rendered, renderedOn, renderedBy, renderOf, framesOn};
+ghost use Rattle.ranges.specs.Ranges.{rangesOf};
+ghost use Rattle.turn.specs.Render.{renderOver};
+ghost use Rattle.render_turns.specs.Turns.{Playing};
+ghost use Rattle.render.specs.Render.{rendered, renderedOn, renderedBy, renderOf, framesOn};
 ghost use Rattle.render.specs.Rooms.{Blank, Rows};
 use params::Params;
 use turn::Render;
@@ -42,6 +45,7 @@ fn finish(
 fn render_on(
     p: Params,
     r: Render,
+    ranges: &[u64],
     memory: &[u8],
     words: &mut [u32],
     longs: &mut [u64],
@@ -53,14 +57,15 @@ fn render_on(
     out: &mut [f32],
     frames: &mut [f32],
 ) -> u32
-    requires { ⌜ Playing p r (now memory) 0 (stateOf (now words) (now longs) (now floats) (now contexts) (now history)) ⌝ ∗ ⌜ Rows p (now src) (now out) ⌝ ∗ ⌜ 2 * p .«sample_count» ≤ length (now frames) ⌝ }
+    requires { ⌜ Playing p (renderOver r (now ranges)) (now memory) 0 (stateOf (now words) (now longs) (now floats) (now contexts) (now history)) ⌝ ∗ ⌜ Rows p (now src) (now out) ⌝ ∗ ⌜ 2 * p .«sample_count» ≤ length (now frames) ⌝ }
     ensures { λ rounds. ⌜ rendered (stateOf (now (words .exit)) (now (longs .exit)) (now (floats .exit)) (now (contexts .exit)) (now (history .exit))) rounds (now (frames .exit))
-        ≡ renderedOn p r (now (memory .entry)) (stateOf (now (words .entry)) (now (longs .entry)) (now (floats .entry)) (now (contexts .entry)) (now (history .entry))) (now (buffers .entry)) (now (frames .entry)) ⌝ }
+        ≡ renderedOn p (renderOver r (now (ranges .entry))) (now (memory .entry)) (stateOf (now (words .entry)) (now (longs .entry)) (now (floats .entry)) (now (contexts .entry)) (now (history .entry))) (now (buffers .entry)) (now (frames .entry)) ⌝ }
 {
     count_render(longs);
-    let rounds = turns::render_voices(
+    let rounds = render_turns::render_voices(
         p,
         r,
+        ranges,
         memory,
         words,
         longs,
@@ -79,7 +84,7 @@ fn render_on(
 // A render with room that is lent: mix buffers that are silent as far as it needs them, and rows.
 fn render_lent(
     p: Params,
-    base: u64,
+    ranges: &[u64],
     memory: &[u8],
     words: &mut [u32],
     longs: &mut [u64],
@@ -91,16 +96,17 @@ fn render_lent(
     out: &mut [f32],
     frames: &mut [f32],
 ) -> u32
-    requires { ⌜ Playing p (renderOf p base (length (now memory))) (now memory) 0 (stateOf (now words) (now longs) (now floats) (now contexts) (now history)) ⌝ ∗ ⌜ 2 * p .«sample_count» ≤ length (now frames) ⌝
+    requires { ⌜ Playing p (renderOf p (rangesOf (now ranges))) (now memory) 0 (stateOf (now words) (now longs) (now floats) (now contexts) (now history)) ⌝ ∗ ⌜ 2 * p .«sample_count» ≤ length (now frames) ⌝
         ∗ ⌜ Blank p (now buffers) ⌝ ∗ ⌜ Rows p (now src) (now out) ⌝ }
     ensures { λ rounds. ⌜ rendered (stateOf (now (words .exit)) (now (longs .exit)) (now (floats .exit)) (now (contexts .exit)) (now (history .exit))) rounds (now (frames .exit))
-        ≡ renderedBy p base (now (memory .entry)) (stateOf (now (words .entry)) (now (longs .entry)) (now (floats .entry)) (now (contexts .entry)) (now (history .entry))) (now (frames .entry)) ⌝ }
+        ≡ renderedBy p (rangesOf (now (ranges .entry))) (now (memory .entry)) (stateOf (now (words .entry)) (now (longs .entry)) (now (floats .entry)) (now (contexts .entry)) (now (history .entry))) (now (frames .entry)) ⌝ }
 {
     let total = p.mix_buffers as usize * p.sample_count as usize;
-    let r = render_of(p, base, memory.len() as u64);
+    let r = render_of(p);
     render_on(
         p,
         r,
+        ranges,
         memory,
         words,
         longs,
@@ -117,7 +123,7 @@ fn render_lent(
 // A render: the rounds that its fetches took. The frames go to the front of a slice that has room for them.
 pub fn render(
     p: Params,
-    base: u64,
+    ranges: &[u64],
     memory: &[u8],
     words: &mut [u32],
     longs: &mut [u64],
@@ -126,14 +132,14 @@ pub fn render(
     history: &mut [f32],
     frames: &mut [f32],
 ) -> u32
-    requires { ⌜ Playing p (renderOf p base (length (now memory))) (now memory) 0 (stateOf (now words) (now longs) (now floats) (now contexts) (now history)) ⌝ ∗ ⌜ 2 * p .«sample_count» ≤ length (now frames) ⌝ }
+    requires { ⌜ Playing p (renderOf p (rangesOf (now ranges))) (now memory) 0 (stateOf (now words) (now longs) (now floats) (now contexts) (now history)) ⌝ ∗ ⌜ 2 * p .«sample_count» ≤ length (now frames) ⌝ }
     ensures { λ rounds. ⌜ rendered (stateOf (now (words .exit)) (now (longs .exit)) (now (floats .exit)) (now (contexts .exit)) (now (history .exit))) rounds (now (frames .exit))
-        ≡ renderedBy p base (now (memory .entry)) (stateOf (now (words .entry)) (now (longs .entry)) (now (floats .entry)) (now (contexts .entry)) (now (history .entry))) (now (frames .entry)) ⌝ }
+        ≡ renderedBy p (rangesOf (now (ranges .entry))) (now (memory .entry)) (stateOf (now (words .entry)) (now (longs .entry)) (now (floats .entry)) (now (contexts .entry)) (now (history .entry))) (now (frames .entry)) ⌝ }
 {
     rooms::render_from(
         0,
         p,
-        base,
+        ranges,
         memory,
         words,
         longs,
@@ -145,14 +151,12 @@ pub fn render(
 }
 
 // What a render gives to each voice.
-fn render_of(p: Params, base: u64, size: u64) -> Render
-    ensures { λ r. ⌜ r ≡ renderOf p base size ⌝ }
+fn render_of(p: Params) -> Render
+    ensures { λ r. ⌜ ((numbers : List ℕ) → renderOver r numbers ≡ renderOf p (rangesOf numbers)) ⌝ }
 {
     Render {
         sample_count: p.sample_count,
         sample_rate: p.sample_rate,
         buffers_v2: p.revision_number() >= 8,
-        base,
-        size,
     }
 }

@@ -4,7 +4,9 @@ ghost use mathlib.Core.Bool.{true, false};
 ghost use Prim.Native.Nat.{_*_, _≤_, _<_};
 ghost use lib.ListN.{length};
 ghost use Rattle.state.specs.State.{stateOf};
-ghost use Rattle.render.specs.Render.{Playing, rendered, renderedBy, renderOf};
+ghost use Rattle.ranges.specs.Ranges.{rangesOf};
+ghost use Rattle.render_turns.specs.Turns.{Playing};
+ghost use Rattle.render.specs.Render.{rendered, renderedBy, renderOf};
 ghost use Rattle.render.specs.Rooms.{roomFloats, roomSamples, Fits};
 use crate::render_lent;
 use params::Params;
@@ -12,7 +14,7 @@ use params::Params;
 // Mix buffers of 256 floats and rows of 16 samples.
 fn render_256(
     p: Params,
-    base: u64,
+    ranges: &[u64],
     memory: &[u8],
     words: &mut [u32],
     longs: &mut [u64],
@@ -21,16 +23,16 @@ fn render_256(
     history: &mut [f32],
     frames: &mut [f32],
 ) -> u32
-    requires { ⌜ Playing p (renderOf p base (length (now memory))) (now memory) 0 (stateOf (now words) (now longs) (now floats) (now contexts) (now history)) ⌝ ∗ ⌜ 2 * p .«sample_count» ≤ length (now frames) ⌝ ∗ ⌜ Fits 0 p ⌝ }
+    requires { ⌜ Playing p (renderOf p (rangesOf (now ranges))) (now memory) 0 (stateOf (now words) (now longs) (now floats) (now contexts) (now history)) ⌝ ∗ ⌜ 2 * p .«sample_count» ≤ length (now frames) ⌝ ∗ ⌜ Fits 0 p ⌝ }
     ensures { λ rounds. ⌜ rendered (stateOf (now (words .exit)) (now (longs .exit)) (now (floats .exit)) (now (contexts .exit)) (now (history .exit))) rounds (now (frames .exit))
-        ≡ renderedBy p base (now (memory .entry)) (stateOf (now (words .entry)) (now (longs .entry)) (now (floats .entry)) (now (contexts .entry)) (now (history .entry))) (now (frames .entry)) ⌝ }
+        ≡ renderedBy p (rangesOf (now (ranges .entry))) (now (memory .entry)) (stateOf (now (words .entry)) (now (longs .entry)) (now (floats .entry)) (now (contexts .entry)) (now (history .entry))) (now (frames .entry)) ⌝ }
 {
     let mut buffers = [0.0f32; 256];
     let mut src = [0.0f32; 64];
     let mut out = [0.0f32; 96];
     render_lent(
         p,
-        base,
+        ranges,
         memory,
         words,
         longs,
@@ -47,7 +49,7 @@ fn render_256(
 // Mix buffers of 2,560 floats, and rows of as many samples as there can be.
 fn render_2560(
     p: Params,
-    base: u64,
+    ranges: &[u64],
     memory: &[u8],
     words: &mut [u32],
     longs: &mut [u64],
@@ -56,16 +58,16 @@ fn render_2560(
     history: &mut [f32],
     frames: &mut [f32],
 ) -> u32
-    requires { ⌜ Playing p (renderOf p base (length (now memory))) (now memory) 0 (stateOf (now words) (now longs) (now floats) (now contexts) (now history)) ⌝ ∗ ⌜ 2 * p .«sample_count» ≤ length (now frames) ⌝ ∗ ⌜ Fits 1 p ⌝ }
+    requires { ⌜ Playing p (renderOf p (rangesOf (now ranges))) (now memory) 0 (stateOf (now words) (now longs) (now floats) (now contexts) (now history)) ⌝ ∗ ⌜ 2 * p .«sample_count» ≤ length (now frames) ⌝ ∗ ⌜ Fits 1 p ⌝ }
     ensures { λ rounds. ⌜ rendered (stateOf (now (words .exit)) (now (longs .exit)) (now (floats .exit)) (now (contexts .exit)) (now (history .exit))) rounds (now (frames .exit))
-        ≡ renderedBy p base (now (memory .entry)) (stateOf (now (words .entry)) (now (longs .entry)) (now (floats .entry)) (now (contexts .entry)) (now (history .entry))) (now (frames .entry)) ⌝ }
+        ≡ renderedBy p (rangesOf (now (ranges .entry))) (now (memory .entry)) (stateOf (now (words .entry)) (now (longs .entry)) (now (floats .entry)) (now (contexts .entry)) (now (history .entry))) (now (frames .entry)) ⌝ }
 {
     let mut buffers = [0.0f32; 2560];
     let mut src = [0.0f32; 516];
     let mut out = [0.0f32; 1536];
     render_lent(
         p,
-        base,
+        ranges,
         memory,
         words,
         longs,
@@ -82,7 +84,7 @@ fn render_2560(
 // Mix buffers of 6,144 floats.
 fn render_6144(
     p: Params,
-    base: u64,
+    ranges: &[u64],
     memory: &[u8],
     words: &mut [u32],
     longs: &mut [u64],
@@ -91,16 +93,16 @@ fn render_6144(
     history: &mut [f32],
     frames: &mut [f32],
 ) -> u32
-    requires { ⌜ Playing p (renderOf p base (length (now memory))) (now memory) 0 (stateOf (now words) (now longs) (now floats) (now contexts) (now history)) ⌝ ∗ ⌜ 2 * p .«sample_count» ≤ length (now frames) ⌝ ∗ ⌜ Fits 2 p ⌝ }
+    requires { ⌜ Playing p (renderOf p (rangesOf (now ranges))) (now memory) 0 (stateOf (now words) (now longs) (now floats) (now contexts) (now history)) ⌝ ∗ ⌜ 2 * p .«sample_count» ≤ length (now frames) ⌝ ∗ ⌜ Fits 2 p ⌝ }
     ensures { λ rounds. ⌜ rendered (stateOf (now (words .exit)) (now (longs .exit)) (now (floats .exit)) (now (contexts .exit)) (now (history .exit))) rounds (now (frames .exit))
-        ≡ renderedBy p base (now (memory .entry)) (stateOf (now (words .entry)) (now (longs .entry)) (now (floats .entry)) (now (contexts .entry)) (now (history .entry))) (now (frames .entry)) ⌝ }
+        ≡ renderedBy p (rangesOf (now (ranges .entry))) (now (memory .entry)) (stateOf (now (words .entry)) (now (longs .entry)) (now (floats .entry)) (now (contexts .entry)) (now (history .entry))) (now (frames .entry)) ⌝ }
 {
     let mut buffers = [0.0f32; 6144];
     let mut src = [0.0f32; 516];
     let mut out = [0.0f32; 1536];
     render_lent(
         p,
-        base,
+        ranges,
         memory,
         words,
         longs,
@@ -117,7 +119,7 @@ fn render_6144(
 // All mix buffers that there can be.
 fn render_24576(
     p: Params,
-    base: u64,
+    ranges: &[u64],
     memory: &[u8],
     words: &mut [u32],
     longs: &mut [u64],
@@ -126,16 +128,16 @@ fn render_24576(
     history: &mut [f32],
     frames: &mut [f32],
 ) -> u32
-    requires { ⌜ Playing p (renderOf p base (length (now memory))) (now memory) 0 (stateOf (now words) (now longs) (now floats) (now contexts) (now history)) ⌝ ∗ ⌜ 2 * p .«sample_count» ≤ length (now frames) ⌝ ∗ ⌜ Fits 3 p ⌝ }
+    requires { ⌜ Playing p (renderOf p (rangesOf (now ranges))) (now memory) 0 (stateOf (now words) (now longs) (now floats) (now contexts) (now history)) ⌝ ∗ ⌜ 2 * p .«sample_count» ≤ length (now frames) ⌝ ∗ ⌜ Fits 3 p ⌝ }
     ensures { λ rounds. ⌜ rendered (stateOf (now (words .exit)) (now (longs .exit)) (now (floats .exit)) (now (contexts .exit)) (now (history .exit))) rounds (now (frames .exit))
-        ≡ renderedBy p base (now (memory .entry)) (stateOf (now (words .entry)) (now (longs .entry)) (now (floats .entry)) (now (contexts .entry)) (now (history .entry))) (now (frames .entry)) ⌝ }
+        ≡ renderedBy p (rangesOf (now (ranges .entry))) (now (memory .entry)) (stateOf (now (words .entry)) (now (longs .entry)) (now (floats .entry)) (now (contexts .entry)) (now (history .entry))) (now (frames .entry)) ⌝ }
 {
     let mut buffers = [0.0f32; 24576];
     let mut src = [0.0f32; 516];
     let mut out = [0.0f32; 1536];
     render_lent(
         p,
-        base,
+        ranges,
         memory,
         words,
         longs,
@@ -194,7 +196,7 @@ fn enough(k: u32, floats: usize, samples: u32) -> bool
 pub fn render_from(
     k: u32,
     p: Params,
-    base: u64,
+    ranges: &[u64],
     memory: &[u8],
     words: &mut [u32],
     longs: &mut [u64],
@@ -203,16 +205,16 @@ pub fn render_from(
     history: &mut [f32],
     frames: &mut [f32],
 ) -> u32
-    requires { ⌜ Playing p (renderOf p base (length (now memory))) (now memory) 0 (stateOf (now words) (now longs) (now floats) (now contexts) (now history)) ⌝ ∗ ⌜ 2 * p .«sample_count» ≤ length (now frames) ⌝ }
+    requires { ⌜ Playing p (renderOf p (rangesOf (now ranges))) (now memory) 0 (stateOf (now words) (now longs) (now floats) (now contexts) (now history)) ⌝ ∗ ⌜ 2 * p .«sample_count» ≤ length (now frames) ⌝ }
     ensures { λ rounds. ⌜ rendered (stateOf (now (words .exit)) (now (longs .exit)) (now (floats .exit)) (now (contexts .exit)) (now (history .exit))) rounds (now (frames .exit))
-        ≡ renderedBy p base (now (memory .entry)) (stateOf (now (words .entry)) (now (longs .entry)) (now (floats .entry)) (now (contexts .entry)) (now (history .entry))) (now (frames .entry)) ⌝ }
+        ≡ renderedBy p (rangesOf (now (ranges .entry))) (now (memory .entry)) (stateOf (now (words .entry)) (now (longs .entry)) (now (floats .entry)) (now (contexts .entry)) (now (history .entry))) (now (frames .entry)) ⌝ }
 {
     let total = p.mix_buffers as usize * p.sample_count as usize;
     if enough(k, total, p.sample_count) {
         if k == 0 {
             return render_256(
                 p,
-                base,
+                ranges,
                 memory,
                 words,
                 longs,
@@ -225,7 +227,7 @@ pub fn render_from(
         if k == 1 {
             return render_2560(
                 p,
-                base,
+                ranges,
                 memory,
                 words,
                 longs,
@@ -238,7 +240,7 @@ pub fn render_from(
         if k == 2 {
             return render_6144(
                 p,
-                base,
+                ranges,
                 memory,
                 words,
                 longs,
@@ -250,7 +252,7 @@ pub fn render_from(
         }
         return render_24576(
             p,
-            base,
+            ranges,
             memory,
             words,
             longs,
@@ -263,7 +265,7 @@ pub fn render_from(
     render_from(
         k + 1,
         p,
-        base,
+        ranges,
         memory,
         words,
         longs,

@@ -5,12 +5,15 @@ use mathlib.Core.List.{List}
 use Prim.Native.Nat.{ℕ, _<_}
 use lib.Dec.{T}
 use lib.Ieee.{Float}
+use lib.ListN.{length}
+use Rattle.ranges.specs.Ranges.{Range}
+use Rattle.ranges.specs.Ascending.{Ascending}
 use Rattle.state.specs.State.{State, paramsIn}
 use Rattle.voice.specs.declared.play.Play.{Play}
 use Rattle.voice.specs.declared.queue.Queue.{Queue}
 use Rattle.voice.specs.declared.Voice.{Voice}
 use Rattle.voice.specs.Voice.{with as prepared}
-use Rattle.turn.specs.declared.Render.{Render}
+use Rattle.turn.specs.Render.{Render}
 use Rattle.turn.specs.Turn.{takesPart, unfresh, finished, turnOf}
 use Rattle.turn.specs.Begins.{begin-same}
 use Rattle.voice_sends.specs.Laws.{and-left}
@@ -63,6 +66,7 @@ unfolding nextVoice
 next-live r v = let b = begunVoice (takesPart v) v in turned-live (b .ready) r (b .voice) ∙ begun-live (takesPart v) v
 
 -- each voice that can be heard after a render could be before it
-pub render-live : (st : State) → Whole st → (base : ℕ) (m : List ℕ) (frames : List Float) (k : ℕ) → k < paramsIn st .voices
-    → T (live (voiceIn k (renderedBy (paramsIn st) base m st frames .state))) → T (live (voiceIn k st))
-render-live st w base m frames k l = subst T (ap live (rendered-voice st w base m frames k l) ∙ next-live _ (voiceIn k st))
+pub render-live : (st : State) → Whole st → (rs : List Range) (m : List ℕ) → Ascending (length m) 0 rs → (frames : List Float)
+    → (k : ℕ) → k < paramsIn st .voices
+    → T (live (voiceIn k (renderedBy (paramsIn st) rs m st frames .state))) → T (live (voiceIn k st))
+render-live st w rs m laid frames k l = subst T (ap live (rendered-voice st w rs m laid frames k l) ∙ next-live _ (voiceIn k st))

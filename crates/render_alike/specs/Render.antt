@@ -14,14 +14,18 @@ use Rattle.params.specs.declared.params.Params.{Params}
 use Rattle.params.specs.Params.{paramsOf}
 use Rattle.state.specs.State.{State, paramsIn}
 use Rattle.voice.specs.declared.Voice.{Voice}
-use Rattle.turn.specs.declared.Render.{Render}
+use Rattle.ranges.specs.Ranges.{Range}
+use Rattle.ranges.specs.Ascending.{Ascending}
+use Rattle.turn.specs.Render.{Render}
 use Rattle.whole.specs.Whole.{Whole}
 use Rattle.frames.specs.Laws.{length-frames-of}
 use Rattle.desk_render.specs.DeskRender.{mixedBy, framesBy}
 use Rattle.state_voices.specs.StateVoices.{voiceIn}
 use Rattle.voice_turn.specs.Played.{Studio, studio}
-use Rattle.render.specs.Render.{voicesRendered, elapsed, renderOf, Rendered, framesAfter, renderedOn, renderedBy, Playing}
-use Rattle.render.specs.Laws.{playing-after, elapsed-playing, voice-same}
+use Rattle.render_turns.specs.Turns.{voicesRendered, Playing}
+use Rattle.render.specs.Render.{elapsed, renderOf, Rendered, framesAfter, renderedOn, renderedBy}
+use Rattle.render_turns.proofs.After.{playing-after}
+use Rattle.render.specs.Laws.{elapsed-playing, voice-same}
 use Rattle.render.specs.FromWhole.{whole-playing}
 use Rattle.alike.specs.Reads.{voiceReads}
 use Rattle.alike.specs.Alike.{Alike, SameReads, live, Named}
@@ -32,7 +36,7 @@ use Rattle.render_alike.specs.Turn.{StudiosAlike, turn-alike}
 
 module _ {p : Params} {P : ℕ → Type 0} {H : Type 0} {r : Render} {m m′ : List ℕ} {x y : Studio} (e : StudiosAlike p P H x y)
     (g : Playing p r m 0 (x .state)) (g′ : Playing p r m′ 0 (y .state))
-    (reads : (k : ℕ) → k < p .voices → P k → SameReads (r .base) m m′ (voiceReads r (voiceIn k (x .state))))
+    (reads : (k : ℕ) → k < p .voices → P k → SameReads (r .ranges) m m′ (voiceReads r (voiceIn k (x .state))))
     (heard : H → Named p P (λ k. voiceIn k (x .state))) where
   voices-alike : (k : ℕ) → k ≤ p .voices → StudiosAlike p P H (voicesRendered p r m k x) (voicesRendered p r m′ k y)
   unfolding voicesRendered upTo
@@ -42,7 +46,7 @@ module _ {p : Params} {P : ℕ → Type 0} {H : Type 0} {r : Render} {m m′ : L
       let h′ = playing-after p r m′ y g′ k (omega arith) in
       let same = sym (voice-left p r m x g k k (le-refl k) l) in
       turn-alike (voices-alike k (omega arith)) (h .desk) (h′ .desk) l (h .voices k (le-refl k) l)
-      (λ q. subst (λ (v : Voice). SameReads (r .base) m m′ (voiceReads r v)) same (reads k l q))
+      (λ q. subst (λ (v : Voice). SameReads (r .ranges) m m′ (voiceReads r v)) same (reads k l q))
       (λ n t. heard n k l (subst (λ (v : Voice). T (live v)) (sym same) t))
 
 -- ---- the frames
@@ -72,13 +76,14 @@ elapsed-alike e = record {
 }
 
 module _ {p : Params} {P : ℕ → Type 0} {r : Render} {m m′ : List ℕ} {st st′ : State} (e : Alike p P st st′) (g : Playing p r m 0 st) (g′ : Playing p r m′ 0 st′)
-    (reads : (k : ℕ) → k < p .voices → P k → SameReads (r .base) m m′ (voiceReads r (voiceIn k st))) (buffers frames frames′ : List Float) where
+    (reads : (k : ℕ) → k < p .voices → P k → SameReads (r .ranges) m m′ (voiceReads r (voiceIn k st)))
+    (buffers frames frames′ : List Float) where
   -- all voices in turn; the count of renders is none of theirs
   played-alike : StudiosAlike p P (Named p P (λ k. voiceIn k st)) (voicesRendered p r m (p .voices) (studio (elapsed st) buffers 0))
       (voicesRendered p r m′ (p .voices) (studio (elapsed st′) buffers 0))
   played-alike =
       voices-alike (record { states = elapsed-alike e; rounds = refl; buffers = λ _. refl }) (elapsed-playing g) (elapsed-playing g′)
-      (λ k l q. subst (λ (v : Voice). SameReads (r .base) m m′ (voiceReads r v)) (sym (voice-same g k)) (reads k l q))
+      (λ k l q. subst (λ (v : Voice). SameReads (r .ranges) m m′ (voiceReads r v)) (sym (voice-same g k)) (reads k l q))
       (λ n k l t. n k l (subst (λ (v : Voice). T (live v)) (voice-same g k) t)) (p .voices) (le-refl _)
 
   on-alike : RendersAlike p P (λ k. voiceIn k st) (renderedOn p r m st buffers frames) (renderedOn p r m′ st′ buffers frames′)
@@ -97,16 +102,17 @@ module _ {p : Params} {P : ℕ → Type 0} {r : Render} {m m′ : List ℕ} {st 
             ∙ sym (frames-first p (y .state) (y .buffers) frames′);
       }
 
-pub rendered-alike : (P : ℕ → Type 0) (base : ℕ) (m m′ : List ℕ) → length m ≡ length m′ → (st st′ : State) → Whole st → Whole st′ → Alike (paramsIn st) P st st′
-    → ((k : ℕ) → k < paramsIn st .voices → P k → SameReads base m m′ (voiceReads (renderOf (paramsIn st) base (length m)) (voiceIn k st)))
+-- of memories in the same ranges, whose parts lie inside both
+pub rendered-alike : (P : ℕ → Type 0) (rs : List Range) (m m′ : List ℕ) → Ascending (length m) 0 rs → Ascending (length m′) 0 rs
+    → (st st′ : State) → Whole st → Whole st′ → Alike (paramsIn st) P st st′
+    → ((k : ℕ) → k < paramsIn st .voices → P k → SameReads rs m m′ (voiceReads (renderOf (paramsIn st) rs) (voiceIn k st)))
     → (frames frames′ : List Float)
-    → RendersAlike (paramsIn st) P (λ k. voiceIn k st) (renderedBy (paramsIn st) base m st frames) (renderedBy (paramsIn st) base m′ st′ frames′)
+    → (let p = paramsIn st in RendersAlike p P (λ k. voiceIn k st) (renderedBy p rs m st frames) (renderedBy p rs m′ st′ frames′))
 unfolding renderedBy renderOf
-rendered-alike P base m m′ same st st′ w w′ e reads frames frames′ =
+rendered-alike P rs m m′ laid laid′ st st′ w w′ e reads frames frames′ =
     let p = paramsIn st in
     let silence = replicate (p .«mix_buffers» * p .«sample_count») zero32 in
-    -- the second state can be rendered with the parameters and the size of memory of the first
-    let g′ = subst (λ (n : ℕ). Playing p (renderOf p base n) m′ 0 st′) (sym same)
-    (subst (λ (words : List ℕ). Playing (paramsOf words) (renderOf (paramsOf words) base (length m′)) m′ 0 st′) (sym (e .words)) (whole-playing st′ w′ base m′)) in
-    subst (λ (n : ℕ). RendersAlike p P (λ k. voiceIn k st) (renderedBy p base m st frames) (renderedOn p (renderOf p base n) m′ st′ silence frames′)) same
-    (on-alike e (whole-playing st w base m) g′ reads silence frames frames′)
+    -- the second state can be rendered with the parameters of the first
+    let g′ = subst (λ (words : List ℕ). Playing (paramsOf words) (renderOf (paramsOf words) rs) m′ 0 st′) (sym (e .words))
+    (whole-playing st′ w′ rs m′ laid′) in
+    on-alike e (whole-playing st w rs m laid) g′ reads silence frames frames′

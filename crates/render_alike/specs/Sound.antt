@@ -14,13 +14,13 @@ use Rattle.adpcm.specs.declared.context.AdpcmContext.{AdpcmContext}
 use Rattle.resample.specs.Defs.{resampled}
 use Rattle.voice.specs.declared.Voice.{Voice}
 use Rattle.voice.specs.declared.sound.Sound.{Sound}
-use Rattle.plan.specs.declared.Source.{Source}
+use Rattle.plan.specs.Source.{Source}
 use Rattle.plan.specs.declared.Act.{Act}
 use Rattle.plan.specs.declared.Decode.{Decode}
 use Rattle.plan.specs.declared.Decode.the-variants.{Nothing, Pcm, Adpcm, Silence}
 use Rattle.sound.specs.Sound.{Deck, tableOf, pcmOf, decodeAdpcm, decodeOn, perform, performAll, rowOf}
 use Rattle.sound.specs.Perform.{fresh}
-use Rattle.turn.specs.declared.Render.{Render}
+use Rattle.turn.specs.Render.{Render}
 use Rattle.playing.specs.Playing.{Material, deckOf, threeOf, channelRow, channelOut, tailOf, playedHistory, playedSound}
 use Rattle.hearing.specs.Hearing.{heardOut}
 use Rattle.voice_turn.specs.Played.{materialOf}
@@ -32,7 +32,7 @@ use Rattle.alike.specs.Alike.{SameReads}
 -- from source s, with two memories; `Same reads`: they give the same bytes to each of these
 module _ (s : Source) (m m′ : List ℕ) where
   abbrev Same : List Span → Type 0
-  Same = SameReads (s .base) m m′
+  Same = SameReads (s .ranges) m m′
 
   -- two lists of reads, one behind the other
   first : (a b : List Span) → Same (a ++ b) → Same a
@@ -58,7 +58,7 @@ module _ (s : Source) (m m′ : List ℕ) where
 
     -- the context that an act begins with
     context-same : (b : Bool) (at : ℕ) (x : AdpcmContext) → Same (cond b (span at 6 ∷ []) [])
-        → cond b (contextOf (readOf (s .base) m at 6)) x ≡ cond b (contextOf (readOf (s .base) m′ at 6)) x
+        → cond b (contextOf (readOf (s .ranges) m at 6)) x ≡ cond b (contextOf (readOf (s .ranges) m′ at 6)) x
     context-same false at x h = refl
     context-same true at x h = ap contextOf (h (span at 6) (List·Memᴰ·head refl))
 
@@ -92,7 +92,7 @@ withMemory m w = record {
   count = w .count;
 }
 
-module _ (w : Material) (m′ : List ℕ) (h : SameReads (w .source .base) (w .memory) m′ (planReads (w .source) (w .plan))) where
+module _ (w : Material) (m′ : List ℕ) (h : SameReads (w .source .ranges) (w .memory) m′ (planReads (w .source) (w .plan))) where
   pub deck-same : (c : ℕ) → deckOf w c ≡ deckOf (withMemory m′ w) c
   unfolding deckOf planReads
   deck-same c =
@@ -126,7 +126,7 @@ module _ (w : Material) (m′ : List ℕ) (h : SameReads (w .source .base) (w .m
 
 -- ---- the turn of a voice that is ready
 
-module _ (r : Render) (m m′ : List ℕ) (v : Voice) (s s′ : Sound) (e : s ≡ s′) (h : SameReads (r .base) m m′ (readyReads true r v)) where
+module _ (r : Render) (m m′ : List ℕ) (v : Voice) (s s′ : Sound) (e : s ≡ s′) (h : SameReads (r .ranges) m m′ (readyReads true r v)) where
   pub played-turn-same : playedSound (materialOf r m v s) ≡ playedSound (materialOf r m′ v s′)
   unfolding materialOf readyReads
   played-turn-same = played-same (materialOf r m v s) m′ h ∙ ap (λ (x : Sound). playedSound (materialOf r m′ v x)) e

@@ -11,7 +11,7 @@ use Rattle.voice.specs.declared.Voice.{Voice}
 use Rattle.voice.specs.declared.ready.Prepared.{Prepared}
 use Rattle.voice_sends.specs.Sending.{rampedRows}
 use Rattle.sound_rows.specs.SoundRow.{soundOf}
-use Rattle.turn.specs.declared.Render.{Render}
+use Rattle.turn.specs.Render.{Render}
 use Rattle.turn.specs.Turn.{turnOf}
 use Rattle.hearing.specs.Hearing.{soundIn}
 use Rattle.state_voices.specs.StateVoices.{voiceIn, begun, Playing, Playable}
@@ -50,7 +50,7 @@ sent-buffers-same false p v o w f b = b
 
 module _ {p : Params} {P : ℕ → Type 0} {H : Type 0} {r : Render} {m m′ : List ℕ} {k : ℕ} {x y : Studio} (e : StudiosAlike p P H x y)
     (c : Renderable p r m (x .state)) (c′ : Renderable p r m′ (y .state)) (inside : k < p .voices)
-    (v : Voice) (q : Playing (p .voices) v) (reads : P k → SameReads (r .base) m m′ (readyReads true r v)) where
+    (v : Voice) (q : Playing (p .voices) v) (reads : P k → SameReads (r .ranges) m m′ (readyReads true r v)) where
   sound-same : P k → soundIn k (x .state .contexts) (x .state .history) ≡ soundIn k (y .state .contexts) (y .state .history)
   unfolding soundIn
   sound-same h = λ i. soundOf (e .states .contexts k inside h i) (e .states .history k inside h i)
@@ -84,7 +84,8 @@ module _ {p : Params} {P : ℕ → Type 0} {H : Type 0} {r : Render} {m m′ : L
 
 module _ {p : Params} {P : ℕ → Type 0} {H : Type 0} {r : Render} {m m′ : List ℕ} {k : ℕ} {x y : Studio} (e : StudiosAlike p P H x y)
     (c : Renderable p r m (x .state)) (c′ : Renderable p r m′ (y .state)) (inside : k < p .voices) (q : Playable p k (x .state))
-    (reads : P k → SameReads (r .base) m m′ (voiceReads r (voiceIn k (x .state)))) (heard : H → T (live (voiceIn k (x .state))) → P k) where
+    (reads : P k → SameReads (r .ranges) m m′ (voiceReads r (voiceIn k (x .state))))
+    (heard : H → T (live (voiceIn k (x .state))) → P k) where
   abbrev b : Prepared
   b = begun p k (x .state) .prepared
 
@@ -103,7 +104,7 @@ module _ {p : Params} {P : ℕ → Type 0} {H : Type 0} {r : Render} {m m′ : L
       let g = begun-facts (beginning-of c inside q) in
       let g′ = begun-facts (beginning-of c′ inside (subst (Playing (p .voices)) (voice-alike (e .states) k) q)) in
       played-alike begun-studios (renderable-same c (g .only)) (renderable-same c′ (g′ .only)) inside (b .voice) (g .playing)
-      (λ h. subst (λ (t : Bool). SameReads (r .base) m m′ (readyReads t r (b .voice))) t (reads h))
+      (λ h. subst (λ (t : Bool). SameReads (r .ranges) m m′ (readyReads t r (b .voice))) t (reads h))
       (λ h d. heard h (ready-live (voiceIn k (x .state)) t d))
   by-ready false t = begun-studios
 

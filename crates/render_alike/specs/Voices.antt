@@ -10,7 +10,9 @@ use lib.ListN.{length}
 use Rattle.rows.specs.Folds.{upTo}
 use Rattle.params.specs.declared.params.Params.{Params}
 use Rattle.state.specs.State.{State, paramsIn}
-use Rattle.turn.specs.declared.Render.{Render}
+use Rattle.ranges.specs.Ranges.{Range}
+use Rattle.ranges.specs.Ascending.{Ascending}
+use Rattle.turn.specs.Render.{Render}
 use Rattle.whole.specs.Whole.{Whole}
 use Rattle.state_voices.specs.StateVoices.{voiceIn}
 use Rattle.voice_turn.specs.Played.{Studio}
@@ -18,8 +20,10 @@ use Rattle.voice_turn.specs.Laws.{Stepped}
 use Rattle.voice_render.specs.RenderVoice.{renderVoice}
 use Rattle.voice_render.specs.Next.{nextVoice, voiceRounds}
 use Rattle.voice_render.specs.Laws.{render-step}
-use Rattle.render.specs.Render.{voicesRendered, renderOf, renderedOn, renderedBy, Playing}
-use Rattle.render.specs.Laws.{playing-after, elapsed-playing, voice-same}
+use Rattle.render_turns.specs.Turns.{voicesRendered, Playing}
+use Rattle.render.specs.Render.{renderOf, renderedOn, renderedBy}
+use Rattle.render_turns.proofs.After.{playing-after}
+use Rattle.render.specs.Laws.{elapsed-playing, voice-same}
 use Rattle.render.specs.FromWhole.{whole-playing}
 
 module _ (p : Params) (r : Render) (m : List ℕ) (x : Studio) (h : Playing p r m 0 (x .state)) where
@@ -49,10 +53,12 @@ module _ (p : Params) (r : Render) (m : List ℕ) (x : Studio) (h : Playing p r 
       (λ (g : j < k). step k b .only .others j (omega arith) (λ (e : j ≡ k). omega arith) ∙ voice-done k j g (omega arith))
       (eq-or-lt-of-le (le-of-suc-le-suc l))
 
-pub rendered-voice : (st : State) → Whole st → (base : ℕ) (m : List ℕ) (frames : List Float) (k : ℕ) → k < paramsIn st .voices
-    → voiceIn k (renderedBy (paramsIn st) base m st frames .state) ≡ nextVoice (renderOf (paramsIn st) base (length m)) (voiceIn k st)
+-- after a render it is its next, by the ranges of memory and no byte of it
+pub rendered-voice : (st : State) → Whole st → (rs : List Range) (m : List ℕ) → Ascending (length m) 0 rs → (frames : List Float)
+    → (k : ℕ) → k < paramsIn st .voices
+    → voiceIn k (renderedBy (paramsIn st) rs m st frames .state) ≡ nextVoice (renderOf (paramsIn st) rs) (voiceIn k st)
 unfolding renderedBy renderedOn
-rendered-voice st w base m frames k l =
-    let g = whole-playing st w base m in
-    let r = renderOf (paramsIn st) base (length m) in
+rendered-voice st w rs m laid frames k l =
+    let g = whole-playing st w rs m laid in
+    let r = renderOf (paramsIn st) rs in
     voice-done (paramsIn st) r m _ (elapsed-playing g) (paramsIn st .voices) k l (le-refl _) ∙ ap (nextVoice r) (voice-same g k)

@@ -6,12 +6,14 @@ use native.Mathlib.Omega.{arith}
 use lib.Ieee.{Float}
 use lib.ListN.{length, getD, replicate}
 use Rattle.floats.specs.Defs.{zero32}
+use Rattle.ranges.specs.Ranges.{Range}
+use Rattle.ranges.specs.Ascending.{Ascending}
 use Rattle.params.specs.declared.params.Params.{Params}
 use Rattle.params.specs.Params.{paramsOf, params-part}
 use Rattle.state.specs.State.{State, Sized, mixesOf, mixWords, sinkWords, listWords, paramsIn, voiceWordsIn, voiceFloatsIn, mixWordsIn, sinkWordsIn, listWordsIn}
 use Rattle.whole.specs.Whole.{Whole}
 use Rattle.whole_rows.specs.Rows.{rows-whole}
-use Rattle.turn.specs.declared.Render.{Render}
+use Rattle.turn.specs.Render.{Render}
 use Rattle.voice_turn.specs.Played.{studio}
 use Rattle.render.specs.Render.{elapsed, renderOf, renderedOn, renderedBy}
 use Rattle.render.specs.Laws.{elapsed-playing}
@@ -21,17 +23,17 @@ use Rattle.render_keeps.specs.Turns.{Kept, voices-kept}
 
 -- ---- before the first voice, and after the last
 
-module _ (st : State) (h : Whole st) (base : ℕ) (m : List ℕ) where
+module _ (st : State) (h : Whole st) (rs : List Range) (m : List ℕ) (laid : Ascending (length m) 0 rs) where
   abbrev p : Params
   p = paramsIn st
 
   abbrev r : Render
-  r = renderOf p base (length m)
+  r = renderOf p rs
 
   begin-kept : Kept p r m st (elapsed st)
   unfolding elapsed
   begin-kept =
-      let y = elapsed-playing (whole-playing st h base m) in
+      let y = elapsed-playing (whole-playing st h rs m laid) in
       record {
         desk = y .desk;
         front = refl;
@@ -63,12 +65,16 @@ module _ (st : State) (h : Whole st) (base : ℕ) (m : List ℕ) where
       })
       (q .desk .sized)
 
-  render-kept : (frames : List Float) → Kept p r m st (renderedBy p base m st frames .state)
+  render-kept : (frames : List Float) → Kept p r m st (renderedBy p rs m st frames .state)
   unfolding renderedBy renderedOn
   render-kept frames = voices-kept (studio (elapsed st) (replicate (p .«mix_buffers» * p .«sample_count») zero32) 0) begin-kept (p .voices) (omega arith)
 
-pub render-params : (st : State) → Whole st → (base : ℕ) (m : List ℕ) (frames : List Float) → paramsIn (renderedBy (paramsIn st) base m st frames .state) ≡ paramsIn st
-render-params st h base m frames = kept-params st h base m (render-kept st h base m frames)
+-- the parameters are those before it
+pub render-params : (st : State) → Whole st → (rs : List Range) (m : List ℕ) → Ascending (length m) 0 rs → (frames : List Float)
+    → paramsIn (renderedBy (paramsIn st) rs m st frames .state) ≡ paramsIn st
+render-params st h rs m laid frames = kept-params st h rs m laid (render-kept st h rs m laid frames)
 
-pub render-whole : (st : State) → Whole st → (base : ℕ) (m : List ℕ) (frames : List Float) → Whole (renderedBy (paramsIn st) base m st frames .state)
-render-whole st h base m frames = kept-whole st h base m (render-kept st h base m frames)
+-- what a render leaves is whole
+pub render-whole : (st : State) → Whole st → (rs : List Range) (m : List ℕ) → Ascending (length m) 0 rs → (frames : List Float)
+    → Whole (renderedBy (paramsIn st) rs m st frames .state)
+render-whole st h rs m laid frames = kept-whole st h rs m laid (render-kept st h rs m laid frames)

@@ -12,7 +12,7 @@ use Rattle.state.specs.State.{State, Sized, mixWords}
 use Rattle.voice.specs.declared.Voice.{Voice}
 use Rattle.voice.specs.declared.ready.Prepared.{Prepared}
 use Rattle.voice_rows.specs.VoiceRow.{wordsOf}
-use Rattle.turn.specs.declared.Render.{Render}
+use Rattle.turn.specs.Render.{Render}
 use Rattle.turn.specs.Turn.{takesPart, beginOf, turnOf}
 use Rattle.state_voices.specs.StateVoices.{voiceIn, putVoice, taken, resetBy, storedBy, begunState, begun, Playable}
 use Rattle.state_voices.specs.Keeps.{only-taken}
@@ -22,7 +22,7 @@ use Rattle.voice_turn.specs.Asks.{Renderable}
 use Rattle.voice_render.specs.RenderVoice.{readyBy, renderVoice}
 use Rattle.voice_render.specs.Made.{beginning-of}
 use Rattle.voice_render.specs.Laws.{render-step, render-renderable, render-playable, render-others}
-use Rattle.render.specs.Render.{voicesRendered}
+use Rattle.render_turns.specs.Turns.{voicesRendered}
 use Rattle.render_keeps.specs.Marks.{Marked, one-and-others, marked-put}
 
 -- ---- the marks after the turn of voice k

@@ -62,12 +62,14 @@ updateSeen a st reply = updateLeft (updateNumber a) (updateSize a) st reply
 abbrev pub renderNumber : RenderAnswer → ℕ
 renderNumber (of-render.Rendered rounds) = 0
 renderNumber of-render.NotWhole = 4
+renderNumber of-render.Ranges = 13
 renderNumber of-render.FarMemory = 5
 renderNumber of-render.ShortFrames = 7
 
 abbrev pub renderRounds : RenderAnswer → ℕ
 renderRounds (of-render.Rendered rounds) = rounds
 renderRounds of-render.NotWhole = 0
+renderRounds of-render.Ranges = 0
 renderRounds of-render.FarMemory = 0
 renderRounds of-render.ShortFrames = 0
 

@@ -2,13 +2,17 @@
 use mathlib.Core.Path.{_≡_, ap, sym, _∙_}
 use mathlib.Core.Bool.{Bool, true, false, cond, not}
 use mathlib.Core.List.{List}
-use Prim.Native.Nat.{ℕ, _+_, _*_, _^_, _≤_, _<_}
+use Prim.Native.Nat.{ℕ, _*_, _≤_, _<_}
 use native.Mathlib.Omega.{arith}
 use borrow.Author.Tests.{le-leb, lt-leb, not-true, not-false}
 use lib.Dec.{leb}
 use lib.Ieee.{Float}
 use lib.ListN.{length, replicate}
 use Rattle.rows.specs.Rows.{put}
+use Rattle.ranges.specs.Ranges.{Range}
+use Rattle.ranges.specs.Ascending.{Ascending}
+use Rattle.ranges.specs.Questions.{laidOf, nearOf}
+use Rattle.ranges.proofs.Questions.{laid-facts}
 use Rattle.params.specs.declared.params.Params.{Params}
 use Rattle.params.specs.Sizes.{Allowed, replyLength}
 use Rattle.state.specs.declared.Places.{Places}
@@ -109,33 +113,43 @@ module _ (st : State) (expected : ℕ) (input reply : List ℕ) {t : Bool} (et :
         rw (passed et q, le-leb (replyLength (paramsIn st) expected) (length reply) (rw size-is at h))
         (λ i. updateLeft 0 (size-is i) (state-is i) (reply-is i))
 
--- ---- render: the answers t and n of questions 4 and 5
+-- ---- render: the answers t, l and n of questions 4, 13 and 5
 
-module _ (st : State) (base : ℕ) (m : List ℕ) (frames : List Float) {t : Bool} (et : t ≡ wholeOf st) where
-  pub render-four : not t ≡ true → renderLeft 4 0 st frames ≡ renderCall st base m frames
+-- two that are "yes" say that the ranges ascend over n bytes
+pub ascending : (n : ℕ) (rs : List Range) {l b : Bool} → l ≡ laidOf n rs → not l ≡ false → b ≡ nearOf rs → not b ≡ false → Ascending n 0 rs
+ascending n rs el y eb w = laid-facts n rs (passed el y) (passed eb w)
+
+module _ (st : State) (rs : List Range) (m : List ℕ) (frames : List Float) {t : Bool} (et : t ≡ wholeOf st) where
+  pub render-four : not t ≡ true → renderLeft 4 0 st frames ≡ renderCall st rs m frames
   unfolding renderCall
   render-four q = rw (failed et q)
 
-  module _ (q : not t ≡ false) {n : Bool} (en : n ≡ leb (base + length m) (2 ^ 63)) where
-    pub render-five : not n ≡ true → renderLeft 5 0 st frames ≡ renderCall st base m frames
+  module _ (q : not t ≡ false) {l : Bool} (el : l ≡ laidOf (length m) rs) where
+    pub render-thirteen : not l ≡ true → renderLeft 13 0 st frames ≡ renderCall st rs m frames
     unfolding renderCall
-    render-five w = rw (passed et q, failed en w)
+    render-thirteen y = rw (passed et q, failed el y)
 
-    module _ (w : not n ≡ false) {p : Params} (ep : p ≡ paramsIn st) where
-      count-is : 2 * p .«sample_count» ≡ 2 * paramsIn st .«sample_count»
-      count-is = ap (λ (x : Params). 2 * x .«sample_count») ep
-
-      pub render-seven : length frames < 2 * p .«sample_count» → renderLeft 7 0 st frames ≡ renderCall st base m frames
+    module _ (y : not l ≡ false) {n : Bool} (en : n ≡ nearOf rs) where
+      pub render-five : not n ≡ true → renderLeft 5 0 st frames ≡ renderCall st rs m frames
       unfolding renderCall
-      render-seven h = rw (passed et q, passed en w, lt-leb (2 * paramsIn st .«sample_count») (length frames) (rw count-is at h))
+      render-five w = rw (passed et q, passed el y, failed en w)
 
-      pub render-done : 2 * p .«sample_count» ≤ length frames → {rounds : ℕ} {u : State} {f : List Float} → rendered u rounds f ≡ renderedBy p base m st frames
-          → renderLeft 0 rounds u f ≡ renderCall st base m frames
-      unfolding renderCall renderDone
-      render-done h e =
-          let x = e ∙ ap (λ (p : Params). renderedBy p base m st frames) ep in
-          rw (passed et q, passed en w, le-leb (2 * paramsIn st .«sample_count») (length frames) (rw count-is at h))
-          (λ i. renderLeft 0 (x i .rounds) (x i .state) (x i .frames))
+      module _ (w : not n ≡ false) {p : Params} (ep : p ≡ paramsIn st) where
+        count-is : 2 * p .«sample_count» ≡ 2 * paramsIn st .«sample_count»
+        count-is = ap (λ (x : Params). 2 * x .«sample_count») ep
+
+        pub render-seven : length frames < 2 * p .«sample_count» → renderLeft 7 0 st frames ≡ renderCall st rs m frames
+        unfolding renderCall
+        render-seven h =
+            rw (passed et q, passed el y, passed en w, lt-leb (2 * paramsIn st .«sample_count») (length frames) (rw count-is at h))
+
+        pub render-done : 2 * p .«sample_count» ≤ length frames → {rounds : ℕ} {u : State} {f : List Float}
+            → rendered u rounds f ≡ renderedBy p rs m st frames → renderLeft 0 rounds u f ≡ renderCall st rs m frames
+        unfolding renderCall renderDone
+        render-done h e =
+            let x = e ∙ ap (λ (p : Params). renderedBy p rs m st frames) ep in
+            rw (passed et q, passed el y, passed en w, le-leb (2 * paramsIn st .«sample_count») (length frames) (rw count-is at h))
+            (λ i. renderLeft 0 (x i .rounds) (x i .state) (x i .frames))
 
 -- ---- mix_order: the answer t of question 4
 

@@ -51,7 +51,9 @@ pub enum RenderAnswer {
     Rendered(u32),
     // 4: the state
     NotWhole,
-    // 5: base and length of sample memory
+    // 13: the ranges of sample memory
+    Ranges,
+    // 5: where a range ends
     FarMemory,
     // 7: the frame slice
     ShortFrames,

@@ -10,8 +10,7 @@ pub use answers::RenderAnswer;
 pub use answers::ReplyLengthAnswer;
 pub use answers::UpdateAnswer;
 ghost use mathlib.Core.Path.{_≡_};
-ghost use Prim.Native.Nat.{_+_, _^_};
-ghost use lib.Dec.{leb};
+ghost use Rattle.ranges.specs.Ranges.{rangesOf};
 ghost use Rattle.state.specs.State.{stateOf};
 ghost use Rattle.calls.specs.Calls.{lengthsCall, replyLengthCall, openCall, updateCall, renderCall, orderCall};
 ghost use Rattle.renderer.specs.Answers.{lengthsSeen, replyLengthSeen, openSeen, updateSeen, renderSeen, orderSeen};
@@ -84,19 +83,6 @@ pub fn open(
     OpenAnswer::Opened
 }
 
-// Whether sample memory ends at 2^63 or before.
-fn near(base: u64, size: u64) -> bool
-    ensures { λ r. ⌜ r ≡ leb (base + size) (2 ^ 63) ⌝ }
-{
-    if 0x8000_0000_0000_0000 < base {
-        return false;
-    }
-    if 0x8000_0000_0000_0000 - base < size {
-        return false;
-    }
-    true
-}
-
 // A title's update: `expected` is the size of reply that it expects, `input` its sections. The reply goes to the front of `reply`.
 pub fn update(
     words: &mut [u32],
@@ -133,24 +119,29 @@ pub fn update(
     UpdateAnswer::Updated(size)
 }
 
-// A render: samples are read from `memory`, which stands at `base`. The frames, left and right by turns, go to the front of `frames`.
+// A render: samples are read from `memory`, whose parts stand at the addresses that `ranges` says: three numbers a range, its base, where
+// its part starts in `memory`, and its length. The frames, left and right by turns, go to the front of `frames`.
 pub fn render(
     words: &mut [u32],
     longs: &mut [u64],
     floats: &mut [f32],
     contexts: &mut [u16],
     history: &mut [f32],
-    base: u64,
+    ranges: &[u64],
     memory: &[u8],
     frames: &mut [f32],
 ) -> RenderAnswer
     ensures { λ r. ⌜ renderSeen r (stateOf (now (words .exit)) (now (longs .exit)) (now (floats .exit)) (now (contexts .exit)) (now (history .exit))) (now (frames .exit))
-        ≡ renderCall (stateOf (now (words .entry)) (now (longs .entry)) (now (floats .entry)) (now (contexts .entry)) (now (history .entry))) base (now (memory .entry)) (now (frames .entry)) ⌝ }
+        ≡ renderCall (stateOf (now (words .entry)) (now (longs .entry)) (now (floats .entry)) (now (contexts .entry)) (now (history .entry)))
+        (rangesOf (now (ranges .entry))) (now (memory .entry)) (now (frames .entry)) ⌝ }
 {
     if !whole::whole(words, longs, floats, contexts, history) {
         return RenderAnswer::NotWhole;
     }
-    if !near(base, memory.len() as u64) {
+    if !ranges::laid(ranges, memory.len() as u64) {
+        return RenderAnswer::Ranges;
+    }
+    if !ranges::near(ranges) {
         return RenderAnswer::FarMemory;
     }
     let p = Params::load(words);
@@ -159,7 +150,7 @@ pub fn render(
     }
     let rounds = render::render(
         p,
-        base,
+        ranges,
         memory,
         words,
         longs,

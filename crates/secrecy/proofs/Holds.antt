@@ -9,13 +9,14 @@ use native.Mathlib.Omega.{arith}
 use Rattle.params.specs.declared.params.Params.{Params}
 use Rattle.state.specs.State.{State}
 use Rattle.calls.specs.Calls.{openCall}
+use Rattle.alike.specs.Reads.{span}
 use Rattle.secrecy.specs.Sessions.{Call, Said, saidAll, framesAt}
 use Rattle.secrecy.specs.Declared.{routed}
-use Rattle.secrecy.specs.Demand.{Condition}
+use Rattle.secrecy.specs.Demand.{Agree, Condition}
 use Rattle.secrecy.specs.Secrecy.{demand3}
 use Rattle.secrecy.specs.Computing.{computing}
 use Rattle.secrecy.specs.Inputs.{noMix, noSplitter, newVoice, wave, revision, paramsFor, slicesFor, startFor}
-use Rattle.secrecy.specs.Inputs.{desk, updatingAll, base, rendering, refusedRender, pcm, frame}
+use Rattle.secrecy.specs.Inputs.{desk, updatingAll, base, rendering, twoRanges, laidApart, refusedRender, pcm, memoryApart, frame}
 use Rattle.secrecy.proofs.Same.{sameOn, agrees}
 
 abbrev pub p : Params
@@ -61,10 +62,10 @@ pub unrouted : Condition p st one other 3
 unfolding computing startFor desk updatingAll rendering pcm sameOn
 unrouted zero l k inside t s = tt
 unrouted (suc zero) l k inside t s = tt
-unrouted (suc (suc zero)) l zero inside t s = agrees base (memory odd even 0) (memory odd others 0) _ refl
+unrouted (suc (suc zero)) l zero inside t s = agrees (memory odd even 0) (memory odd others 0) _ _ refl
 unrouted (suc (suc zero)) l (suc zero) inside t s = absurd t
 unrouted (suc (suc zero)) l (suc (suc k)) inside t s = absurd (omega arith)
-unrouted (suc (suc (suc zero))) l zero inside t s = agrees base (memory odd even 0) (memory odd others 0) _ refl
+unrouted (suc (suc (suc zero))) l zero inside t s = agrees (memory odd even 0) (memory odd others 0) _ _ refl
 unrouted (suc (suc (suc zero))) l (suc zero) inside t s = absurd t
 unrouted (suc (suc (suc zero))) l (suc (suc k)) inside t s = absurd (omega arith)
 unrouted (suc (suc (suc (suc j)))) l k inside t s = absurd (omega arith)
@@ -104,8 +105,8 @@ unfolding computing startFor desk updatingAll rendering refusedRender pcm sameOn
 refused-render zero l k inside t s = tt
 refused-render (suc zero) l k inside t s = tt
 refused-render (suc (suc zero)) l k inside t s = absurd s
-refused-render (suc (suc (suc zero))) l k inside t s = λ x lo hi w. refl
-refused-render (suc (suc (suc (suc zero)))) l k inside t s = λ x lo hi w. refl
+refused-render (suc (suc (suc zero))) l k inside t s = λ r i x lo hi w. refl
+refused-render (suc (suc (suc (suc zero)))) l k inside t s = λ r i x lo hi w. refl
 refused-render (suc (suc (suc (suc (suc j))))) l k inside t s = absurd (omega arith)
 
 pub refused-frames : framesAt st first 4 ≡ framesAt st second 4
@@ -133,14 +134,26 @@ pub undeclared : Condition p st here there 3
 unfolding computing startFor desk updatingAll rendering pcm sameOn
 undeclared zero l k inside t s = tt
 undeclared (suc zero) l k inside t s = tt
-undeclared (suc (suc zero)) l zero inside t s = agrees base (memory odd even 0) (memory odd even 0xffff) _ refl
-undeclared (suc (suc zero)) l (suc zero) inside t s = agrees base (memory odd even 0) (memory odd even 0xffff) _ refl
+undeclared (suc (suc zero)) l zero inside t s = agrees (memory odd even 0) (memory odd even 0xffff) _ _ refl
+undeclared (suc (suc zero)) l (suc zero) inside t s = agrees (memory odd even 0) (memory odd even 0xffff) _ _ refl
 undeclared (suc (suc zero)) l (suc (suc k)) inside t s = absurd (omega arith)
-undeclared (suc (suc (suc zero))) l zero inside t s = agrees base (memory odd even 0) (memory odd even 0xffff) _ refl
-undeclared (suc (suc (suc zero))) l (suc zero) inside t s = agrees base (memory odd even 0) (memory odd even 0xffff) _ refl
+undeclared (suc (suc (suc zero))) l zero inside t s = agrees (memory odd even 0) (memory odd even 0xffff) _ _ refl
+undeclared (suc (suc (suc zero))) l (suc zero) inside t s = agrees (memory odd even 0) (memory odd even 0xffff) _ _ refl
 undeclared (suc (suc (suc zero))) l (suc (suc k)) inside t s = absurd (omega arith)
 undeclared (suc (suc (suc (suc j)))) l k inside t s = absurd (omega arith)
 
 pub undeclared-frames : framesAt st here 3 ≡ framesAt st there 3
 unfolding startFor rendering pcm
 undeclared-frames = demand3 p (slicesFor 2) (slicesFor 2) opened-on opened-on here there refl .frames 3 undeclared
+
+-- ---- memory in two ranges
+
+-- the memories agree where bytes differ that no span covers, and where bytes differ that lie in no range, though the span has all addresses
+-- of both
+pub elsewhere : Agree (twoRanges 0) (memoryApart 0x100 7 0) (memoryApart 0x100 9 0) (span base 4 ∷ [])
+    × Agree (twoRanges 0) (memoryApart 0x100 7 0) (memoryApart 0x100 7 0xff) (span base 8 ∷ [])
+unfolding laidApart pcm sameOn
+elsewhere = (
+  agrees (memoryApart 0x100 7 0) (memoryApart 0x100 9 0) (twoRanges 0) (span base 4 ∷ []) refl,
+  agrees (memoryApart 0x100 7 0) (memoryApart 0x100 7 0xff) (twoRanges 0) (span base 8 ∷ []) refl,
+)

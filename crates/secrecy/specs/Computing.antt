@@ -14,6 +14,8 @@ use Rattle.desk_render.specs.DeskRender.{framesBy, mixedBy}
 use Rattle.fields.specs.Fields.{bytesOf, fieldAt, flagAt, le as leField, positive, restOf, sectionOf}
 use Rattle.frames.specs.Frames.{downmixAt, downmixOf, firstFrom, framesOf, playsAt, sinkAt}
 use Rattle.gain.specs.Gain.{mixInto, mixed, rampOf, ramped, stepOf as gainStep}
+use Rattle.ranges.specs.Questions.{laidOf, nearOf}
+use Rattle.ranges.specs.Ranges.{readableOf}
 use Rattle.memory.specs.Memory.{readOf}
 use Rattle.mixing.specs.Mixing.{mixedDown}
 use Rattle.opened.specs.Opened.{defaultVoice}
@@ -21,7 +23,8 @@ use Rattle.order.specs.Order.{atDistance, fallingFrom, hopsFrom, only}
 use Rattle.params.specs.Params.{paramsOf, rowOf}
 use Rattle.params.specs.Sections.{sectionsOf}
 use Rattle.params.specs.Sizes.{effectsBytes, fixedOf, infoBytes, poolsOf, revisionOf}
-use Rattle.render.specs.Render.{elapsed, renderedOn, voicesRendered}
+use Rattle.render_turns.specs.Turns.{voicesRendered}
+use Rattle.render.specs.Render.{elapsed, renderedOn}
 use Rattle.reply.specs.Reply.{backOf, effectsSection, frontOf, headerOf, infoOf, poolsOfInput, replyOf, restBytes}
 use Rattle.reply_sections.specs.Bytes.{wordsBytes, zeros}
 use Rattle.reply_sections.specs.Effects.{effectAt, effectRow, effectRows, effectState}
@@ -59,8 +62,9 @@ unfolding coefficientsOf contextOf runFrom tookOf valueOf nibbleOf sizeOf countF
     channelStep channelsOf flagAt floatAt deviceRow isDevice sinkFloatsIf sinkPut sinkRecord sinkStep sinkWordsIf sinksOf countsBefore dirtyOnly mixAct mixBase
     mixCount mixFloats mixFloatsIf mixHead mixId mixPut mixPutIf mixRecord mixRecords mixStep mixVolumes mixWords mixWordsIf mixesOf mixesRead offsetStep offsetsOf
     positive framesBy mixedBy bytesOf fieldAt leField restOf sectionOf downmixAt downmixOf firstFrom framesOf playsAt sinkAt mixInto mixed rampOf ramped gainStep
-    readOf mixedDown defaultVoice atDistance fallingFrom hopsFrom only paramsOf rowOf sectionsOf effectsBytes fixedOf infoBytes poolsOf revisionOf elapsed
-    renderedOn voicesRendered backOf effectsSection frontOf headerOf infoOf poolsOfInput replyOf restBytes wordsBytes zeros effectAt effectRow effectRows
+    laidOf nearOf readableOf readOf mixedDown defaultVoice atDistance fallingFrom hopsFrom only paramsOf rowOf sectionsOf effectsBytes
+    fixedOf infoBytes poolsOf revisionOf elapsed renderedOn voicesRendered backOf effectsSection frontOf headerOf infoOf poolsOfInput
+    replyOf restBytes wordsBytes zeros effectAt effectRow effectRows
     effectState granted poolRow poolWord poolsBytes heardOf statusAt statusOf voicesBytes listsWhole mixWhole mixesWhole sinksWhole rowsWithin within all every sum
     someChannel voiceWhole voiceWordsWhole voicesWhole inputSpans reads factorsOf frames inputOf leftOf rightOf sampleOf side sinkOf toUnit wordsOfContext
     destinationStep destinationsFrom newlyOf storedFloats storedWords strideFrom strideOf usedOf volumeOf withFloats withWords countOf entryOf nextOf

@@ -3,6 +3,7 @@ use mathlib.Core.Path.{_≡_}
 use mathlib.Core.Bool.{Bool, true, false, cond, _||_}
 use mathlib.Core.List.{List, [], _∷_, _++_, List·Memᴰ}
 use Prim.Native.Nat.{ℕ, zero, suc, _+_, _^_, _%_, _<_}
+use Rattle.ranges.specs.Ranges.{Range}
 use Rattle.fields.specs.Fields.{fieldAt}
 use Rattle.params.specs.declared.params.Params.{Params}
 use Rattle.state.specs.State.{State, paramsIn}
@@ -38,15 +39,15 @@ unfoldable pub inputSpans : List ℕ → ℕ → List Span
 unfolding recordSpans recordUsed
 inputSpans input k = cond (recordUsed (voiceRecord input k)) (recordSpans (voiceRecord input k)) []
 
--- the reads of voice k at a render
-unfoldable pub reads : State → ℕ → ℕ → ℕ → List Span
+-- the reads of voice k at a render of memory in these ranges
+unfoldable pub reads : State → List Range → ℕ → List Span
 unfolding voiceReads renderOf
-reads st base size k = voiceReads (renderOf (paramsIn st) base size) (voiceIn k st)
+reads st rs k = voiceReads (renderOf (paramsIn st) rs) (voiceIn k st)
 
 -- by a call, as if it succeeds: no sample byte takes part
 abbrev pub spansBy : State → Shape → ℕ → List Span
 spansBy st (updates expected input size) k = inputSpans input k
-spansBy st (renders base size wide) k = reads st base size k
+spansBy st (renders rs size wide) k = reads st rs k
 
 -- by a call: one that is refused declares nothing
 abbrev pub declares : State → Call → ℕ → List Span
@@ -63,7 +64,7 @@ declared st (c ∷ cs) (suc r) k = declares st c k ++ declared (after st c) cs r
 -- by a call, as if it succeeds
 abbrev pub routesBy : State → Shape → ℕ → Bool
 routesBy st (updates expected input size) k = routes (paramsIn st) input k
-routesBy st (renders base size wide) k = false
+routesBy st (renders rs size wide) k = false
 
 -- by a call: one that is refused routes nothing
 abbrev pub routing : State → Call → ℕ → Bool

@@ -1,9 +1,10 @@
 -- Demand 3: over a whole list of calls, what replies, refusals, rounds and frames may depend on. Definitions only.
 use mathlib.Core.Path.{_≡_}
-use mathlib.Core.List.{List, [], _∷_}
+use mathlib.Core.List.{List, [], _∷_, List·Memᴰ}
 use Prim.Native.Nat.{ℕ, zero, suc, _+_, _-_, _≤_, _<_}
 use lib.Dec.{T}
-use lib.ListN.{length, getD}
+use lib.ListN.{getD}
+use Rattle.ranges.specs.Ranges.{Range}
 use Rattle.params.specs.declared.params.Params.{Params}
 use Rattle.state.specs.State.{State}
 use Rattle.calls.specs.Calls.{openCall}
@@ -13,14 +14,16 @@ use Rattle.secrecy.specs.Declared.{Covered, spansBy, declared, routed}
 
 -- ---- two memories that agree
 
--- on the bytes of these spans that lie inside
-abbrev pub Agree : ℕ → List ℕ → List ℕ → List Span → Type 0
-Agree base m m′ spans = (x : ℕ) → base ≤ x → x < base + length m → Covered spans x → getD m (x - base) 0 ≡ getD m′ (x - base) 0
+-- on the bytes of these spans that lie inside: in each range, at each of its addresses that a span covers
+abbrev pub Agree : List Range → List ℕ → List ℕ → List Span → Type 0
+Agree rs m m′ spans =
+    (r : Range) → List·Memᴰ r rs → (x : ℕ) → r .base ≤ x → x < r .base + r .size → Covered spans x
+    → getD m (r .start + (x - r .base)) 0 ≡ getD m′ (r .start + (x - r .base)) 0
 
 -- those of two renders; an update has none
 abbrev pub AgreeOn : Call → Call → List Span → Type 0
-AgreeOn (render base m frames) (render base′ m′ frames′) spans = Agree base m m′ spans
-AgreeOn (render base m frames) (update expected′ input′ reply′) spans = Unit {0}
+AgreeOn (render rs m frames) (render rs′ m′ frames′) spans = Agree rs m m′ spans
+AgreeOn (render rs m frames) (update expected′ input′ reply′) spans = Unit {0}
 AgreeOn (update expected input reply) c′ spans = Unit {0}
 
 -- ---- the condition of a render R: at R and each render before it that succeeds, for every voice that is routed at any time before R

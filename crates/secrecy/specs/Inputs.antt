@@ -4,8 +4,9 @@ use mathlib.Core.List.{List, [], _∷_, _++_}
 use Prim.Native.Nat.{ℕ, _+_, _-_, _*_, _^_}
 use lib.Ieee.{Float, fin}
 use lib.IntN.{negsuc}
-use lib.ListN.{length, take, replicate}
+use lib.ListN.{length, take, drop, replicate}
 use Rattle.floats.specs.Defs.{zero32}
+use Rattle.ranges.specs.Ranges.{Range, range}
 use Rattle.fields.specs.Fields.{bytesOf}
 use Rattle.params.specs.declared.params.Params.{Params}
 use Rattle.state.specs.State.{State, stateOf, placesOf}
@@ -179,12 +180,31 @@ refused fields = update 0 (voicesInput (fields ∷ [])) (replicate 0x16f 0)
 abbrev pub base : ℕ
 base = 0x10000
 
+-- all of it in one range
+abbrev pub wholeRange : List ℕ → List Range
+wholeRange m = range base 0 (length m) ∷ []
+
+-- a render of memory in these ranges, and of memory that is one range
+unfoldable pub renderingIn : List Range → List ℕ → Call
+renderingIn rs m = render rs m (replicate 4 zero32)
+
 unfoldable pub rendering : List ℕ → Call
-rendering m = render base m (replicate 4 zero32)
+unfolding renderingIn
+rendering m = renderingIn (wholeRange m) m
+
+-- two ranges over a slice of 13 bytes: three bytes from `base` on, and five more, which lie before them in the slice; `gap` addresses
+-- between the two are in neither
+abbrev pub twoRanges : ℕ → List Range
+twoRanges gap = range base 9 3 ∷ range (base + 3 + gap) 0 5 ∷ []
+
+-- the slice, by the eight bytes of the ranges in the sequence of their addresses and by what its bytes in no range are: four between the
+-- parts and one behind
+unfoldable pub laidApart : List ℕ → ℕ → List ℕ
+laidApart bytes others = drop 3 bytes ++ (replicate 4 others ++ (take 3 bytes ++ (others ∷ [])))
 
 -- one that is refused by 7: the frame slice is a float too short
 unfoldable pub refusedRender : List ℕ → Call
-refusedRender m = render base m (replicate 3 zero32)
+refusedRender m = render (wholeRange m) m (replicate 3 zero32)
 
 -- ---- voices that play, and what sample memory has for them
 
@@ -196,6 +216,11 @@ unfoldable pub pcm : List ℕ → List ℕ
 unfolding bytesOf
 pcm [] = []
 pcm (x ∷ xs) = bytesOf 2 x ++ pcm xs
+
+-- four samples in the two ranges, of which the second sample has a byte in each: by what its high byte adds to it, the last sample and the
+-- bytes in no range
+abbrev pub memoryApart : ℕ → ℕ → ℕ → List ℕ
+memoryApart high last others = laidApart (pcm (1 ∷ (3 + high) ∷ 5 ∷ last ∷ [])) others
 
 -- the same voice later: not new, and its buffers were sent before
 abbrev pub pcmLater : ℕ → Call

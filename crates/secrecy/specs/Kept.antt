@@ -5,6 +5,10 @@ use mathlib.Core.List.{List, [], _∷_, List·Memᴰ, List·Memᴰ·head, List·
 use Prim.Native.Nat.{ℕ, zero, suc}
 use native.Mathlib.Omega.{arith}
 use lib.Ieee.{Float}
+use lib.ListN.{length}
+use Rattle.ranges.specs.Ranges.{Range}
+use Rattle.ranges.specs.Questions.{laidOf, nearOf}
+use Rattle.ranges.proofs.Questions.{laid-facts}
 use Rattle.params.specs.declared.params.Params.{Params}
 use Rattle.state.specs.State.{State}
 use Rattle.whole.specs.Whole.{Whole}
@@ -31,17 +35,23 @@ module _ (st : State) (w : Whole st) where
   update-fine expected input reply true = record { whole = update-whole st w input; other = λ e. omega arith }
   update-fine expected input reply false = record { whole = w; other = λ e. omega arith }
 
-  render-fine : (base : ℕ) (m : List ℕ) (frames : List Float) (t u : Bool) → Fine (askedBy t u st base m frames .state) (askedBy t u st base m frames .number)
+  render-fine : (rs : List Range) (m : List ℕ) (frames : List Float) (t u v : Bool) → laidOf (length m) rs ≡ t → nearOf rs ≡ u
+      → Fine (askedBy t u v st rs m frames .state) (askedBy t u v st rs m frames .number)
   unfolding askedBy renderDone
-  render-fine base m frames true true = record { whole = render-whole st w base m frames; other = λ e. omega arith }
-  render-fine base m frames true false = record { whole = w; other = λ e. omega arith }
-  render-fine base m frames false u = record { whole = w; other = λ e. omega arith }
+  render-fine rs m frames true true true h g = record {
+    whole = render-whole st w rs m (laid-facts (length m) rs h g) frames;
+    other = λ e. omega arith;
+  }
+  render-fine rs m frames true true false h g = record { whole = w; other = λ e. omega arith }
+  render-fine rs m frames true false v h g = record { whole = w; other = λ e. omega arith }
+  render-fine rs m frames false u v h g = record { whole = w; other = λ e. omega arith }
 
   pub call-fine : (c : Call) → Fine (after st c) (said st c .number)
   call-fine (update expected input reply) =
       subst (λ (o : UpdateOutcome). Fine (o .state) (o .number)) (sym (update-is st w expected input reply)) (update-fine expected input reply _)
-  call-fine (render base m frames) =
-      subst (λ (o : RenderOutcome). Fine (o .state) (o .number)) (sym (render-is st w base m frames)) (render-fine base m frames _ _)
+  call-fine (render rs m frames) =
+      subst (λ (o : RenderOutcome). Fine (o .state) (o .number)) (sym (render-is st w rs m frames))
+      (render-fine rs m frames _ _ _ refl refl)
 
 -- ---- a list of calls
 

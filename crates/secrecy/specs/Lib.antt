@@ -1,4 +1,5 @@
 pub mod Sessions
+pub mod Shapes
 pub mod Declared
 pub mod Refused
 pub mod Demand

@@ -8,6 +8,7 @@ use Prim.Native.Nat.{ℕ, zero, suc, _≤_, _<_, zero-le, suc-le-suc}
 use lib.Dec.{T, eqb}
 use lib.Ieee.{Float}
 use lib.ListN.{length}
+use Rattle.ranges.specs.Ranges.{Range}
 use Rattle.params.specs.declared.params.Params.{Params}
 use Rattle.params.specs.Params.{paramsOf}
 use Rattle.state.specs.State.{State, paramsIn}
@@ -84,17 +85,18 @@ module _ {p : Params} where
 
 -- ---- places: the bytes that are declared and the voices that are routed
 
-reads-same : {p : Params} {P : ℕ → Type 0} {a b : State} → Alike p P a b → (base size k : ℕ) → reads a base size k ≡ reads b base size k
+-- what a voice reads follows from what the states have in common and from the ranges
+reads-same : {p : Params} {P : ℕ → Type 0} {a b : State} → Alike p P a b → (rs : List Range) (k : ℕ) → reads a rs k ≡ reads b rs k
 unfolding reads
-reads-same e base size k = λ i. voiceReads (renderOf (paramsOf (e .words i)) base size) (voiceOn k (e .words i) (e .longs i) (e .floats i))
+reads-same e rs k = λ i. voiceReads (renderOf (paramsOf (e .words i)) rs) (voiceOn k (e .words i) (e .longs i) (e .floats i))
 
 spans-same : {p : Params} {P : ℕ → Type 0} {a b : State} → Alike p P a b → (s : Shape) (k : ℕ) → spansBy a s k ≡ spansBy b s k
 spans-same e (updates expected input size) k = refl
-spans-same e (renders base size wide) k = reads-same e base size k
+spans-same e (renders rs size wide) k = reads-same e rs k
 
 routes-same : {p : Params} {P : ℕ → Type 0} {a b : State} → Alike p P a b → (s : Shape) (k : ℕ) → routesBy a s k ≡ routesBy b s k
 routes-same e (updates expected input size) k = λ i. routes (paramsOf (e .words i)) input k
-routes-same e (renders base size wide) k = refl
+routes-same e (renders rs size wide) k = refl
 
 module _ {p : Params} {a b : State} (h : Both p None a b) (c c′ : Call) (e : shape c ≡ shape c′) where
   succeeds-same : succeeds a c ≡ succeeds b c′

@@ -19,8 +19,9 @@ use Rattle.secrecy.specs.Lists.{None, said-same, frames-same, declared-s
 -- ---- agreement on more is agreement on less
 
 agree-less : (c c′ : Call) (few many : List Span) → ((s : Span) → List·Memᴰ s few → List·Memᴰ s many) → AgreeOn c c′ many → AgreeOn c c′ few
-agree-less (render base m frames) (render base′ m′ frames′) few many sub agree = λ x lo hi w. agree x lo hi (w .0, sub (w .0) (w .1), w .2)
-agree-less (render base m frames) (update expected′ input′ reply′) few many sub agree = tt
+agree-less (render rs m frames) (render rs′ m′ frames′) few many sub agree =
+    λ r i x lo hi w. agree r i x lo hi (w .0, sub (w .0) (w .1), w .2)
+agree-less (render rs m frames) (update expected′ input′ reply′) few many sub agree = tt
 agree-less (update expected input reply) c′ few many sub agree = tt
 
 succeeded : (b : Bool) (few : List Span) → T b → (s : Span) → List·Memᴰ s few → List·Memᴰ s (cond b few [])

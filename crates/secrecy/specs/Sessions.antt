@@ -6,6 +6,7 @@ use Prim.Native.Nat.{ℕ, zero, suc, _*_}
 use lib.Dec.{eqb}
 use lib.Ieee.{Float}
 use lib.ListN.{length, take}
+use Rattle.ranges.specs.Ranges.{Range}
 use Rattle.params.specs.declared.params.Params.{Params}
 use Rattle.state.specs.State.{State, paramsIn}
 use Rattle.calls.specs.Calls.{openCall, updateCall, renderCall}
@@ -15,23 +16,24 @@ use Rattle.calls.specs.Calls.{openCall, updateCall, renderCall}
 pub data Call : Type 0 where
   -- the expected size, the input, and the reply slice as it is lent
   update : ℕ → List ℕ → List ℕ → Call
-  -- base and bytes of sample memory, and the frame slice as it is lent
-  render : ℕ → List ℕ → List Float → Call
+  -- the ranges of sample memory and the slice of bytes that they are parts of, and the frame slice as it is lent
+  render : List Range → List ℕ → List Float → Call
 
--- a call without its sample bytes, and without what its reply or frame slice holds
+-- a call without its sample bytes, and without what its reply or frame slice holds: of memory the base and the part of each range and the
+-- slice's length
 pub data Shape : Type 0 where
   updates : ℕ → List ℕ → ℕ → Shape
-  renders : ℕ → ℕ → ℕ → Shape
+  renders : List Range → ℕ → ℕ → Shape
 
 abbrev pub shape : Call → Shape
 shape (update expected input reply) = updates expected input (length reply)
-shape (render base m frames) = renders base (length m) (length frames)
+shape (render rs m frames) = renders rs (length m) (length frames)
 
 -- ---- what is left of a call, and what is seen of it
 
 abbrev pub after : State → Call → State
 after st (update expected input reply) = updateCall st expected input reply .state
-after st (render base m frames) = renderCall st base m frames .state
+after st (render rs m frames) = renderCall st rs m frames .state
 
 -- 0 where it succeeds, or the refusal's number; an update's reply, its length and its bytes; a render's rounds
 pub record Said : Type 0 where
@@ -44,8 +46,8 @@ abbrev pub said : State → Call → Said
 said st (update expected input reply) =
     let o = updateCall st expected input reply in
     record { number = o .number; size = o .size; reply = take (o .size) (o .reply); rounds = 0 }
-said st (render base m frames) =
-    let o = renderCall st base m frames in
+said st (render rs m frames) =
+    let o = renderCall st rs m frames in
     record { number = o .number; size = 0; reply = []; rounds = o .rounds }
 
 abbrev pub succeeds : State → Call → Bool
@@ -54,8 +56,8 @@ succeeds st c = eqb (said st c .number) 0
 -- the 2 * samples floats of a render that succeeds
 abbrev pub framesBy : State → Call → List Float
 framesBy st (update expected input reply) = []
-framesBy st (render base m frames) =
-    let o = renderCall st base m frames in
+framesBy st (render rs m frames) =
+    let o = renderCall st rs m frames in
     cond (eqb (o .number) 0) (take (2 * paramsIn st .«sample_count») (o .frames)) []
 
 -- ---- a list of calls, from a state

@@ -7,6 +7,9 @@ use Prim.Native.Nat.{ℕ, _<_}
 use lib.Dec.{T, eqb, leb}
 use lib.Ieee.{Float}
 use lib.ListN.{length}
+use Rattle.ranges.specs.Ranges.{Range}
+use Rattle.ranges.specs.Questions.{laidOf, nearOf}
+use Rattle.ranges.proofs.Questions.{laid-facts}
 use Rattle.params.specs.declared.params.Params.{Params}
 use Rattle.params.specs.Sizes.{replyLength}
 use Rattle.state.specs.State.{State, paramsIn}
@@ -17,34 +20,13 @@ use Rattle.update_alike.specs.Routes.{routes}
 use Rattle.update_alike.specs.Live.{update-live}
 use Rattle.render_alike.specs.Live.{render-live}
 use Rattle.calls.specs.Calls.{UpdateOutcome, updateDone, updateCall, RenderOutcome, renderDone, renderCall}
-use Rattle.secrecy.specs.Sessions.{Call, update, render, Shape, updates, renders, shape, after, said, succeeds, framesBy}
-use Rattle.secrecy.specs.Declared.{spansBy, routing}
-use Rattle.secrecy.specs.Demand.{AgreeOn}
+use Rattle.secrecy.specs.Sessions.{Call, update, render, shape, after, said, succeeds, framesBy}
+use Rattle.secrecy.specs.Shapes.{isUpdate, expectedOf, inputOf, rangesIn, memoryOf, lengthOf}
+use Rattle.secrecy.specs.Declared.{reads, spansBy, routing}
+use Rattle.secrecy.specs.Demand.{Agree, AgreeOn}
 use Rattle.secrecy.specs.Both.{Both}
 use Rattle.secrecy.specs.Updates.{roomBy, update-is, update-step}
 use Rattle.secrecy.specs.Renders.{askedBy, render-is, render-step}
-
--- ---- the parts of a shape
-
-isUpdate : Shape → Bool
-isUpdate (updates expected input size) = true
-isUpdate (renders base size wide) = false
-
-expectedOf : Shape → ℕ
-expectedOf (updates expected input size) = expected
-expectedOf (renders base size wide) = base
-
-inputOf : Shape → List ℕ
-inputOf (updates expected input size) = input
-inputOf (renders base size wide) = []
-
-lengthOf : Shape → ℕ
-lengthOf (updates expected input size) = size
-lengthOf (renders base size wide) = wide
-
-memoryOf : Shape → ℕ
-memoryOf (updates expected input size) = 0
-memoryOf (renders base size wide) = size
 
 -- ---- a call of each kind
 
@@ -68,11 +50,11 @@ module _ {P : ℕ → Type 0} {a b : State} (h : Both (paramsIn a) P a b) where
         frames = λ _. refl;
       }
 
-  renders-step : (base : ℕ) (m m′ : List ℕ) (frames frames′ : List Float) → length m ≡ length m′ → length frames ≡ length frames′
-      → Fair (paramsIn a) P a (render base m frames) (render base m′ frames′)
-      → Stepped (paramsIn a) P a b (render base m frames) (render base m′ frames′)
-  renders-step base m m′ frames frames′ e w fair =
-      let s = render-step (h .left) (h .right) (h .alike) base m m′ e frames frames′ w fair in
+  renders-step : (rs : List Range) (m m′ : List ℕ) (frames frames′ : List Float) → length m ≡ length m′ → length frames ≡ length frames′
+      → ((k : ℕ) → k < paramsIn a .voices → P k → T (succeeds a (render rs m frames)) → Agree rs m m′ (reads a rs k))
+      → Stepped (paramsIn a) P a b (render rs m frames) (render rs m′ frames′)
+  renders-step rs m m′ frames frames′ e w fair =
+      let s = render-step (h .left) (h .right) (h .alike) rs m m′ e frames frames′ w fair in
       record {
         same = λ i. record { number = s .number i; size = 0; reply = []; rounds = s .rounds i };
         both = s .both;
@@ -80,15 +62,16 @@ module _ {P : ℕ → Type 0} {a b : State} (h : Both (paramsIn a) P a b) where
       }
 
   step-of : (c c′ : Call) → shape c ≡ shape c′ → Fair (paramsIn a) P a c c′ → Stepped (paramsIn a) P a b c c′
-  unfolding isUpdate expectedOf inputOf lengthOf memoryOf
+  unfolding isUpdate expectedOf inputOf rangesIn memoryOf lengthOf
   step-of (update expected input reply) (update expected′ input′ reply′) e fair =
       let same : update expected input reply′ ≡ update expected′ input′ reply′ = λ i. update (expectedOf (e i)) (inputOf (e i)) reply′ in
       subst (Stepped (paramsIn a) P a b (update expected input reply)) same (updates-step expected input reply reply′ (ap lengthOf e))
-  step-of (render base m frames) (render base′ m′ frames′) e fair =
-      let same : render base m′ frames′ ≡ render base′ m′ frames′ = λ i. render (expectedOf (e i)) m′ frames′ in
-      subst (Stepped (paramsIn a) P a b (render base m frames)) same (renders-step base m m′ frames frames′ (ap memoryOf e) (ap lengthOf e) fair)
-  step-of (update expected input reply) (render base′ m′ frames′) e fair = absurd (true≢false (ap isUpdate e))
-  step-of (render base m frames) (update expected′ input′ reply′) e fair = absurd (true≢false (sym (ap isUpdate e)))
+  step-of (render rs m frames) (render rs′ m′ frames′) e fair =
+      let same : render rs m′ frames′ ≡ render rs′ m′ frames′ = λ i. render (rangesIn (e i)) m′ frames′ in
+      subst (Stepped (paramsIn a) P a b (render rs m frames)) same
+      (renders-step rs m m′ frames frames′ (ap memoryOf e) (ap lengthOf e) fair)
+  step-of (update expected input reply) (render rs′ m′ frames′) e fair = absurd (true≢false (ap isUpdate e))
+  step-of (render rs m frames) (update expected′ input′ reply′) e fair = absurd (true≢false (sym (ap isUpdate e)))
 
 pub step : {p : Params} {P : ℕ → Type 0} {a b : State} → Both p P a b → (c c′ : Call) → shape c ≡ shape c′ → Fair p P a c c′ → Stepped p P a b c c′
 step {p} {P} {a} {b} h c c′ e fair =
@@ -106,11 +89,13 @@ module _ (a : State) (w : Whole a) (k : ℕ) (inside : k < paramsIn a .voices) w
   update-heard expected input reply true l = update-live (paramsIn a) (w .allowed) input (w .sized) k inside l
   update-heard expected input reply false l = inl l
 
-  render-heard : (base : ℕ) (m : List ℕ) (frames : List Float) (t u : Bool) → HeardAfter (askedBy t u a base m frames .state) false
+  render-heard : (rs : List Range) (m : List ℕ) (frames : List Float) (t u v : Bool) → laidOf (length m) rs ≡ t → nearOf rs ≡ u
+      → HeardAfter (askedBy t u v a rs m frames .state) false
   unfolding askedBy renderDone
-  render-heard base m frames true true l = inl (render-live a w base m frames k inside l)
-  render-heard base m frames true false l = inl l
-  render-heard base m frames false u l = inl l
+  render-heard rs m frames true true true h g l = inl (render-live a w rs m (laid-facts (length m) rs h g) frames k inside l)
+  render-heard rs m frames true true false h g l = inl l
+  render-heard rs m frames true false v h g l = inl l
+  render-heard rs m frames false u v h g l = inl l
 
   abbrev ByUpdate : List ℕ → UpdateOutcome → Type 0
   ByUpdate input o = HeardAfter (o .state) (cond (eqb (o .number) 0) (routes (paramsIn a) input k) false)
@@ -118,9 +103,11 @@ module _ (a : State) (w : Whole a) (k : ℕ) (inside : k < paramsIn a .voices) w
   pub heard-after : (c : Call) → HeardAfter (after a c) (routing a c k)
   heard-after (update expected input reply) l =
       subst (ByUpdate input) (sym (update-is a w expected input reply)) (update-heard expected input reply _) l
-  heard-after (render base m frames) l =
-      go (subst (λ (o : RenderOutcome). HeardAfter (o .state) false) (sym (render-is a w base m frames)) (render-heard base m frames _ _) l)
+  heard-after (render rs m frames) l =
+      go
+      (subst (λ (o : RenderOutcome). HeardAfter (o .state) false) (sym (render-is a w rs m frames))
+      (render-heard rs m frames _ _ _ refl refl) l)
     where
-      go : T (live (voiceIn k a)) ⊎ T false → T (live (voiceIn k a)) ⊎ T (routing a (render base m frames) k)
+      go : T (live (voiceIn k a)) ⊎ T false → T (live (voiceIn k a)) ⊎ T (routing a (render rs m frames) k)
       go (inl t) = inl t
       go (inr t) = absurd t

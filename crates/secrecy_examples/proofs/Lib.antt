@@ -1,2 +1,4 @@
 pub mod Spans
 pub mod Positions
+pub mod TwoRanges
+pub mod RangeRefusals

@@ -8,7 +8,8 @@ use Rattle.alike.specs.Reads.{Span, span}
 use Rattle.secrecy.specs.Sessions.{Call, render}
 use Rattle.secrecy.specs.Declared.{Within, declared}
 use Rattle.secrecy.specs.Computing.{computing}
-use Rattle.secrecy.specs.Inputs.{Field, noMix, noSplitter, newVoice, unusedVoice, wave, revision, start, startFor, updating, updatingAll, refused, base, rendering, pcmVoice, pcmLater, adpcmVoice}
+use Rattle.secrecy.specs.Inputs.{Field, noMix, noSplitter, newVoice, unusedVoice, wave, revision, start, startFor, updating, updatingAll}
+use Rattle.secrecy.specs.Inputs.{refused, base, wholeRange, rendering, pcmVoice, pcmLater, adpcmVoice}
 
 -- what the voice has declared by call r
 abbrev pub by : ℕ → List Call → List Span
@@ -85,7 +86,8 @@ unfolding computing startFor updatingAll rendering
 unrouted-reads = refl
 
 -- a read that fails, and a render that is refused
-pub no-reads : (by 1 (pcmVoice 0 ∷ rendering (replicate 3 0) ∷ []) ≡ pcmSpans) × (by 1 (pcmVoice 0 ∷ render base (replicate 8 0) [] ∷ []) ≡ pcmSpans)
+pub no-reads : (by 1 (pcmVoice 0 ∷ rendering (replicate 3 0) ∷ []) ≡ pcmSpans)
+    × (by 1 (pcmVoice 0 ∷ render (wholeRange (replicate 8 0)) (replicate 8 0) [] ∷ []) ≡ pcmSpans)
 unfolding computing startFor updatingAll rendering
 no-reads = (refl, refl)
 

@@ -88,7 +88,7 @@ early (suc zero) l k inside t s = tt
 early (suc (suc zero)) l zero inside t s = absurd t
 early (suc (suc zero)) l (suc k) inside t s = absurd (omega arith)
 early (suc (suc (suc zero))) l k inside t s = tt
-early (suc (suc (suc (suc zero)))) l k inside t s = λ x lo hi w. refl
+early (suc (suc (suc (suc zero)))) l k inside t s = λ r i x lo hi w. refl
 early (suc (suc (suc (suc (suc j))))) l k inside t s = absurd (omega arith)
 
 -- demand 3's own does not hold

@@ -1,7 +1,7 @@
 -- Laws of a call's step, as a call of the renderer and a line that was written make it. Assumes nothing.
 use mathlib.Core.Path.{_≡_, refl, ap, sym, _∙_}
 use mathlib.Core.Bool.{Bool, true, false, cond}
-use mathlib.Core.List.{List, []}
+use mathlib.Core.List.{List, [], _∷_}
 use Prim.Native.Nat.{ℕ, suc, _≤_}
 use native.Mathlib.Omega.{arith}
 use borrow.Author.Tests.{leb-true}
@@ -9,6 +9,7 @@ use lib.Dec.{leb}
 use lib.Ieee.{Float}
 use lib.ListN.{length, take}
 use Rattle.fields.specs.Fields.{sectionOf}
+use Rattle.ranges.specs.Ranges.{range}
 use Rattle.params.specs.Sizes.{replyLength}
 use Rattle.state.specs.State.{State, paramsIn}
 use Rattle.whole.specs.Whole.{wholeOf}
@@ -28,7 +29,7 @@ use Rattle.session_calls.specs.Steps.{Written, written, writtenOn}
 -- ---- a step by what the renderer answered, a, and the line that was written
 
 module _ (st : State) (m : List ℕ) (frames : List Float) (reply out : List ℕ) {a : RenderAnswer} {u : State} {f : List Float}
-    {x : List ℕ} {y : ℕ} (seen : renderSeen a u f ≡ renderCall st 0x10000 m frames) where
+    {x : List ℕ} {y : ℕ} (seen : renderSeen a u f ≡ renderCall st (range 0x10000 0 (length m) ∷ []) m frames) where
   pub render-ran : {rounds : ℕ} → a ≡ of-render.Rendered rounds → text x y ≡ append (text out 0) (framesLine f)
       → written 0 (held u f reply) (text x y) ≡ writtenOn out (renderStep (held st frames reply) m)
   unfolding renderStep

@@ -1,9 +1,10 @@
 -- A call of a session: its refusal's number or 0, what it leaves, and its line. Definitions only.
-use mathlib.Core.List.{List}
+use mathlib.Core.List.{List, [], _∷_}
 use Prim.Native.Nat.{ℕ, zero, suc}
 use lib.Ieee.{Float}
-use lib.ListN.{take}
+use lib.ListN.{length, take}
 use Rattle.fields.specs.Fields.{sectionOf}
+use Rattle.ranges.specs.Ranges.{range}
 use Rattle.state.specs.State.{State}
 use Rattle.calls.specs.Calls.{UpdateOutcome, updateCall, RenderOutcome, renderCall}
 use Rattle.session.specs.declared.input.Call.{Call}
@@ -33,13 +34,13 @@ abbrev pub lineOf : ℕ → List ℕ → List ℕ
 lineOf zero line = line
 lineOf (suc n) line = refusedLine (suc n)
 
--- sample memory stands at 0x10000; a render keeps the reply slice
+-- sample memory is one range at 0x10000; a render keeps the reply slice
 abbrev pub rendered : RenderOutcome → List ℕ → Step
 rendered o reply = step (o .number) (held (o .state) (o .frames) reply) (lineOf (o .number) (framesLine (o .frames)))
 
 unfoldable pub renderStep : Held → List ℕ → Step
 unfolding renderCall
-renderStep h memory = rendered (renderCall (h .state) 0x10000 memory (h .frames)) (h .reply)
+renderStep h memory = rendered (renderCall (h .state) (range 0x10000 0 (length memory) ∷ []) memory (h .frames)) (h .reply)
 
 -- the reply is at the front of its slice; an update keeps the frames
 abbrev pub updated : UpdateOutcome → List Float → Step

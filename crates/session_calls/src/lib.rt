@@ -11,7 +11,7 @@ use renderer::RenderAnswer;
 use renderer::UpdateAnswer;
 use session::Call;
 
-// Where sample memory stands.
+// Where sample memory stands: it is one range.
 const BASE: u64 = 0x10000;
 
 // A refusal's number, or 0; and the length of the call's line.
@@ -53,13 +53,14 @@ fn run_render(
         (now (memory .entry))) ⌝ }
     ensures { λ r. ⌜ r .size ≤ length (now (out .exit)) ⌝ }
 {
+    let ranges = [BASE, 0, memory.len() as u64];
     let answer = renderer::render(
         words,
         longs,
         floats,
         contexts,
         history,
-        BASE,
+        &ranges,
         memory,
         frames,
     );
@@ -69,6 +70,7 @@ fn run_render(
             Line { number: 0, size }
         }
         RenderAnswer::NotWhole => refused(4, out),
+        RenderAnswer::Ranges => refused(13, out),
         RenderAnswer::FarMemory => refused(5, out),
         RenderAnswer::ShortFrames => refused(7, out),
     }

@@ -1,5 +1,5 @@
 -- The rounds of a fetch on one channel's row, one after the other. Assumes nothing.
-use Prim.Native.Nat.{ℕ, _+_, _-_, _^_, _≤_, _<_}
+use Prim.Native.Nat.{ℕ, _+_, _-_, _≤_, _<_}
 use native.Mathlib.Omega.{arith}
 use mathlib.Core.Bool.{Bool, true, cond}
 use mathlib.Core.List.{List, [], _∷_, _++_, append-nil, append-assoc}
@@ -9,7 +9,8 @@ use lib.IntN.{ℤ}
 use lib.ListN.{length, take, drop, getD, set, replicate, length-append, length-drop, take-append-drop, length-replicate, length-set}
 use lib.Seq.{length-take-le, take-at, drop-at, drop-drop}
 use Rattle.adpcm.specs.declared.context.AdpcmContext.{AdpcmContext}
-use Rattle.plan.specs.declared.Source.{Source}
+use Rattle.ranges.specs.Ascending.{Ascending}
+use Rattle.plan.specs.Source.{Source}
 use Rattle.plan.specs.declared.Act.{Act}
 use Rattle.plan.specs.Rounds.{Round, roundPlan, more, Planned, planOf}
 use Rattle.plan.specs.Fetch.{sofar, Planning, plan-begin, plan-more}
@@ -21,14 +22,14 @@ use Rattle.floats.specs.Defs.{zero32}
 use Rattle.sound.specs.Sound.{Deck, perform, performAll, rowOf}
 use Rattle.sound.specs.Perform.{fresh, RoomAt, PerformedAt, decode-after, decode-count}
 
--- what a fetch asks: a buffer plays, the row has 3 places and one for each sample, and the source is that of the memory
+-- what a fetch asks: a buffer plays, the row has 3 places and one for each sample, and the ranges ascend over the memory
 pub record Ready (q : Queue) (s : Source) (m : List ℕ) (row : List Float) : Type 0 where
   pub history : 3 ≤ length row
-  pub long : length row ≤ 2 ^ 16
+  pub long : length row ≤ 4100
   pub index : q .index < 4
   pub some : 0 < s .channels
   pub channels : s .channels ≤ 6
-  pub size : s .size ≡ length m
+  pub memory : Ascending (length m) 0 (s .ranges)
 
 -- what is left: the row, and the ADPCM context
 pub record Fetched (history : List Float) (count done : ℕ) (k : Deck) (out : List Float) (x : AdpcmContext) : Type 0 where
@@ -48,13 +49,13 @@ pub perform-after : (s : Source) (m : List ℕ) (table : List ℤ) (c : ℕ) (a 
     → perform s m table c a (record { adpcm = x; out = o })
     ≡ record { adpcm = perform s m table c a (fresh x) .adpcm; out = o ++ perform s m table c a (fresh x) .out }
 unfolding perform
-perform-after s m table c a x o = decode-after s m table c (a .decode) (cond (a .renews) (contextOf (readOf (s .base) m (a .context) 6)) x) o
+perform-after s m table c a x o = decode-after s m table c (a .decode) (cond (a .renews) (contextOf (readOf (s .ranges) m (a .context) 6)) x) o
 
 -- there are as many as the plan says
-pub perform-count : (s : Source) (m : List ℕ) (table : List ℤ) (c : ℕ) (a : Act) (x : AdpcmContext) → s .size ≡ length m → Reads s a
+pub perform-count : (s : Source) (m : List ℕ) (table : List ℤ) (c : ℕ) (a : Act) (x : AdpcmContext) → Ascending (length m) 0 (s .ranges) → Reads s a
     → length (perform s m table c a (fresh x) .out) ≡ madeOf (a .decode)
 unfolding perform
-perform-count s m table c a x h r = decode-count s m table c (a .decode) (cond (a .renews) (contextOf (readOf (s .base) m (a .context) 6)) x) h (r .decode)
+perform-count s m table c a x h r = decode-count s m table c (a .decode) (cond (a .renews) (contextOf (readOf (s .ranges) m (a .context) 6)) x) h (r .decode)
 
 all-none : (s : Source) (m : List ℕ) (table : List ℤ) (c : ℕ) (k : Deck) → performAll s m table c [] k ≡ k
 unfolding performAll
@@ -123,15 +124,16 @@ module _ {q : Queue} {s : Source} {m : List ℕ} {table : List ℤ} {c count : �
   before = ap (take (3 + done)) (p .row-is) ∙ take-at (take 3 row₀ ++ p .o) (p .rest) (3 + done) front-long
 
   -- the round that comes next
-  module _ {r : Round} (e : r ≡ roundPlan w s (count - done)) (size : s .size ≡ length m) where
+  module _ {r : Round} (e : r ≡ roundPlan w s (count - done)) (laid : Ascending (length m) 0 (s .ranges)) where
     kept : Rounded w s (count - done) r
     kept = subst (Rounded w s (count - done)) (sym e) (rounded w s (count - done))
 
-    act-room : s .channels ≤ 6 → RoomAt s m (r .act .decode) (3 + done) row
-    act-room g = record {
-      size = size;
+    act-room : s .channels ≤ 6 → length row₀ ≤ 4100 → RoomAt s m (r .act .decode) (3 + done) row
+    act-room g few = record {
+      memory = laid;
       channels = g;
       want = omega (arith, row-long, kept .room, p .planning .upto, p .room);
+      few = omega (arith, kept .room, p .room);
       reads = kept .reads .decode;
       formed = kept .reads .formed;
     }
@@ -143,7 +145,7 @@ module _ {q : Queue} {s : Source} {m : List ℕ} {table : List ℤ} {c count : �
     playing-more {row′} {y} {n} f h t g =
         let a = r .act in
         let new = perform s m table c a (fresh x) .out in
-        let got : n ≡ r .got = f .count ∙ perform-count s m table c a x size (kept .reads) ∙ kept .made in
+        let got : n ≡ r .got = f .count ∙ perform-count s m table c a x laid (kept .reads) ∙ kept .made in
         record {
           acts = p .acts ++ (a ∷ []);
           o = p .o ++ new;
@@ -216,13 +218,13 @@ module _ {q : Queue} {s : Source} {m : List ℕ} {row : List Float} (h : List Fl
 
     module _ {t : Round} (e : t ≡ roundPlan w s (count - done)) where
       pub going-room : RoomAt s m (t .act .decode) (3 + done) l
-      going-room = act-room g e (r .size) (r .channels)
+      going-room = act-room g e (r .memory) (r .channels) (omega (arith, length-headed h row, r .long))
 
       pub going-more : {l′ : List Float} {y : AdpcmContext} {n : ℕ} {going′ : Bool}
           → PerformedAt (3 + done) (perform s m table c (t .act) (fresh x)) l l′ n y → k < 64 → going ≡ true
           → going′ ≡ more (t .going) (t .queue) (done + t .got) count
           → Playing q s m table c count x₀ (headed h row) l′ (t .queue) y (done + t .got) (k + 1) going′
-      going-more f b a d = playing-more g e (r .size) f b a d
+      going-more f b a d = playing-more g e (r .memory) f b a d
 
     pub going-same : {l′ : List Float} → l′ ≡ take (3 + done) l ++ replicate (length l - (3 + done)) zero32 → length l′ ≡ length row
     going-same f = rw (f, length-append, length-replicate, length-take-le (3 + done) l going-place) (omega (arith, going-place, going-long))

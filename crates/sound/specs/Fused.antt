@@ -7,7 +7,8 @@ use lib.Dec.{leb, ltb, eqb}
 use lib.Ieee.{Float}
 use lib.IntN.{ℤ}
 use lib.ListN.{length, getD, take, replicate}
-use Rattle.memory.specs.Memory.{readableOf, readOf}
+use Rattle.ranges.specs.Ranges.{readableOf}
+use Rattle.memory.specs.Memory.{readOf}
 use Rattle.adpcm.specs.Places.{nibbleOf, sizeOf}
 use Rattle.adpcm.specs.Context.{contextOf}
 use Rattle.adpcm.specs.Decode.{runOf, floated}
@@ -16,7 +17,7 @@ use Rattle.floats.specs.Defs.{zero32}
 use Rattle.voice.specs.Queue.{bufferAt, endBuffer}
 use Rattle.voice.specs.declared.wave.WaveBuffer.{WaveBuffer}
 use Rattle.voice.specs.declared.queue.Queue.{Queue}
-use Rattle.plan.specs.declared.Source.{Source}
+use Rattle.plan.specs.Source.{Source}
 use Rattle.plan.specs.declared.attempt.Got.{Got}
 use Rattle.plan.specs.declared.attempt.Got.the-variants.{Missing, Samples}
 use Rattle.plan.specs.Rounds.{Moved, inLoop, at}
@@ -45,8 +46,8 @@ pcmFused width s m w pos want x rows =
     let n = min want (w .size / frame - pos) in
     let addr = (w .addr + pos * frame) % 2 ^ 64 in
     cond (eqb n 0) (none x rows)
-    (cond (readableOf (s .base) (length m) addr (n * frame))
-    (record { got = Samples n; adpcm = x; rows = eachRow (λ c r. r ++ pcmOf width (s .channels) c (readOf (s .base) m addr (n * frame)) n) 0 rows })
+    (cond (readableOf (s .ranges) addr (n * frame))
+    (record { got = Samples n; adpcm = x; rows = eachRow (λ c r. r ++ pcmOf width (s .channels) c (readOf (s .ranges) m addr (n * frame)) n) 0 rows })
     (none x rows))
 
 -- the samples on channel 0, and as many zeros on the others
@@ -60,10 +61,10 @@ adpcmFused s m table w pos want x rows =
     let first = nibbleOf pos / 2 in
     let last = min (sizeOf (pos + want)) (w .size) in
     let addr = (w .addr + first) % 2 ^ 64 in
-    let run = runOf (readOf (s .base) m addr (last - first)) pos want table x in
+    let run = runOf (readOf (s .ranges) m addr (last - first)) pos want table x in
     let n = length (run .samples) in
     cond (leb last first) (none x rows)
-    (cond (readableOf (s .base) (length m) addr (last - first))
+    (cond (readableOf (s .ranges) addr (last - first))
     (record { got = cond (eqb n 0) Missing (Samples n); adpcm = run .context; rows = eachRow (adpcmRow (run .samples)) 0 rows })
     (none x rows))
 
@@ -126,8 +127,8 @@ unfolding decodeFused turnOf
 roundFused s m table count f =
     let q = f .queue in
     let w = bufferAt q (q .index) in
-    let read = eqb (q .offset) 0 && (eqb (s .format) 6 && (not (eqb (w .context) 0) && readableOf (s .base) (length m) (w .context) 6)) in
-    let x = cond read (contextOf (readOf (s .base) m (w .context) 6)) (f .adpcm) in
+    let read = eqb (q .offset) 0 && (eqb (s .format) 6 && (not (eqb (w .context) 0) && readableOf (s .ranges) (w .context) 6)) in
+    let x = cond read (contextOf (readOf (s .ranges) m (w .context) 6)) (f .adpcm) in
     let looped = inLoop (s .«buffers_v2») w (q .loops) in
     let start = cond looped (w .«loop_start») (w .start) in
     let end = cond looped (w .«loop_end») (w .end) in
@@ -157,7 +158,7 @@ resized n r = take n r ++ replicate (n - length r) zero32
 unfoldable pub fetchFused : Queue → Source → ℕ → List ℕ → AdpcmContext → List (List Float) → Fetching
 unfolding roundsFused eachRow
 fetchFused q s count m x rows =
-    let table = tableOf (eqb (s .format) 6 && readableOf (s .base) (length m) (s .«data_source») 32) s m in
+    let table = tableOf (eqb (s .format) 6 && readableOf (s .ranges) (s .«data_source») 32) s m in
     let f : Fetching = record { queue = q; adpcm = x; rows = rows; done = 0; rounds = 0 } in
     let g = roundsFused 64 (headOf count f) s m table count f in
     record { queue = g .queue; adpcm = g .adpcm; rows = eachRow (λ c r. resized (3 + count) r) 0 (g .rows); done = g .done; rounds = g .rounds }

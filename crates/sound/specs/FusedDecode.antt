@@ -7,8 +7,9 @@ use lib.Dec.{leb, eqb}
 use lib.Ieee.{Float}
 use lib.IntN.{ℤ}
 use lib.ListN.{length, replicate}
-use Rattle.memory.specs.Memory.{readableOf, readOf}
-use Rattle.memory.specs.Laws.{length-read}
+use Rattle.ranges.specs.Ranges.{readableOf}
+use Rattle.memory.specs.Memory.{readOf}
+use Rattle.memory.proofs.Bytes.{length-read}
 use Rattle.adpcm.specs.Places.{nibbleOf, sizeOf}
 use Rattle.adpcm.specs.Decode.{runOf}
 use Rattle.adpcm.specs.Runs.{countOf, run-count}
@@ -16,7 +17,8 @@ use Rattle.adpcm.specs.declared.context.AdpcmContext.{AdpcmContext}
 use Rattle.adpcm.specs.declared.places.Sample.{Sample}
 use Rattle.floats.specs.Defs.{zero32}
 use Rattle.voice.specs.declared.wave.WaveBuffer.{WaveBuffer}
-use Rattle.plan.specs.declared.Source.{Source}
+use Rattle.ranges.specs.Ascending.{Ascending}
+use Rattle.plan.specs.Source.{Source}
 use Rattle.plan.specs.declared.Decode.the-variants.{Nothing, Adpcm, Silence}
 use Rattle.plan.specs.declared.attempt.Got.{Got}
 use Rattle.plan.specs.declared.attempt.Got.the-variants.{Missing, Samples}
@@ -50,16 +52,13 @@ by-cond : {A B : Type 0} (g : A → B) (b : Bool) {x y : B} {u v : A} → (b ≡
 by-cond g true p q = p refl
 by-cond g false p q = q refl
 
-by-read : {A B : Type 0} (g : A → B) {b d : Bool} {x y : B} {u v : A} → b ≡ d → (d ≡ true → x ≡ g u) → (d ≡ false → y ≡ g v) → cond b x y ≡ g (cond d u v)
-by-read g {d = d} {x} {y} e p q = (λ i. cond (e i) x y) ∙ by-cond g d p q
-
 -- two formats of one family
 split : {A : Type 0} (f : ℕ → A) (p q : Bool) (z : A) → cond (p || q) (f (cond p 2 4)) z ≡ cond p (f 2) (cond q (f 4) z)
 split f true q z = refl
 split f false true z = refl
 split f false false z = refl
 
-module _ (s : Source) (m : List ℕ) (table : List ℤ) (size : s .size ≡ length m) (rows : List (List Float)) (y : ℕ → AdpcmContext) where
+module _ (s : Source) (m : List ℕ) (table : List ℤ) (laid : Ascending (length m) 0 (s .ranges)) (rows : List (List Float)) (y : ℕ → AdpcmContext) where
   -- what the Rust's decode leaves, by what is read
   abbrev pub made : Attempt → Decoding
   made a = record {
@@ -79,27 +78,27 @@ module _ (s : Source) (m : List ℕ) (table : List ℤ) (size : s .size ≡ leng
       let n = min want (w .size / frame - start .0) in
       let addr = (w .addr + start .0 * frame) % 2 ^ 64 in
       by-cond made (eqb n 0) (λ e. none-made Missing)
-      (λ e. by-read made (λ i. readableOf (s .base) (sym size i) addr (n * frame)) (λ r. refl) (λ r. none-made Missing))
+      (λ e. by-cond made (readableOf (s .ranges) addr (n * frame)) (λ r. refl) (λ r. none-made Missing))
 
   -- a row of an ADPCM read
   row-same : (addr bytes : ℕ) (start : Sample) (want c : ℕ) (r : List Float)
-      → adpcmRow (runOf (readOf (s .base) m addr bytes) (start .0) want table (y 0) .samples) c r ≡ r ++ decodeOn s m table c (Adpcm want addr bytes start) (fresh (y c)) .out
+      → adpcmRow (runOf (readOf (s .ranges) m addr bytes) (start .0) want table (y 0) .samples) c r ≡ r ++ decodeOn s m table c (Adpcm want addr bytes start) (fresh (y c)) .out
   unfolding decodeOn decodeAdpcm
   row-same addr bytes start want zero r = refl
   row-same addr bytes start want (suc c) r =
-      ap (λ (n : ℕ). r ++ replicate n zero32) (run-count (readOf (s .base) m addr bytes) (start .0) want table (y 0))
+      ap (λ (n : ℕ). r ++ replicate n zero32) (run-count (readOf (s .ranges) m addr bytes) (start .0) want table (y 0))
 
   -- the samples that a read decodes to, as the plan counts them
-  adpcm-made : (addr bytes : ℕ) (start : Sample) (want : ℕ) → readableOf (s .base) (s .size) addr bytes ≡ true
-      → (let run = runOf (readOf (s .base) m addr bytes) (start .0) want table (y 0) in
+  adpcm-made : (addr bytes : ℕ) (start : Sample) (want : ℕ) → readableOf (s .ranges) addr bytes ≡ true
+      → (let run = runOf (readOf (s .ranges) m addr bytes) (start .0) want table (y 0) in
       let n = length (run .samples) in
       record { got = cond (eqb n 0) Missing (Samples n); adpcm = run .context; rows = eachRow (adpcmRow (run .samples)) 0 rows })
       ≡ made (record { got = cond (eqb (countOf bytes (start .0) want) 0) Missing (Samples (countOf bytes (start .0) want)); decode = Adpcm want addr bytes start })
   unfolding decodeOn decodeAdpcm
   adpcm-made addr bytes start want h =
-      let run = runOf (readOf (s .base) m addr bytes) (start .0) want table (y 0) in
+      let run = runOf (readOf (s .ranges) m addr bytes) (start .0) want table (y 0) in
       let e : length (run .samples) ≡ countOf bytes (start .0) want =
-      run-count (readOf (s .base) m addr bytes) (start .0) want table (y 0) ∙ ap (λ (n : ℕ). countOf n (start .0) want) (length-read (s .base) m addr bytes (rw size at h)) in
+      run-count (readOf (s .ranges) m addr bytes) (start .0) want table (y 0) ∙ ap (λ (n : ℕ). countOf n (start .0) want) (length-read m (s .ranges) addr bytes laid h) in
       λ i. record {
         got = cond (eqb (e i) 0) Missing (Samples (e i));
         adpcm = run .context;
@@ -113,7 +112,8 @@ module _ (s : Source) (m : List ℕ) (table : List ℤ) (size : s .size ≡ leng
       let last = min (sizeOf (start .0 + want)) (w .size) in
       let addr = (w .addr + first) % 2 ^ 64 in
       by-cond made (leb last first) (λ e. none-made Missing)
-      (λ e. by-read made (λ i. readableOf (s .base) (sym size i) addr (last - first)) (λ r. adpcm-made addr (last - first) start want r) (λ r. none-made Missing))
+      (λ e.
+      by-cond made (readableOf (s .ranges) addr (last - first)) (λ r. adpcm-made addr (last - first) start want r) (λ r. none-made Missing))
 
   silence-made : (n : ℕ) → record { got = Samples n; adpcm = y 0; rows = eachRow (λ (c : ℕ) (r : List Float). r ++ replicate n zero32) 0 rows }
       ≡ made (record { got = Samples n; decode = Silence n })

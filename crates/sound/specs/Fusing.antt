@@ -9,14 +9,16 @@ use lib.Ieee.{Float}
 use lib.IntN.{ℤ}
 use lib.ListN.{length, replicate, length-append}
 use lib.Seq.{take-all}
-use Rattle.memory.specs.Memory.{readableOf, readOf}
+use Rattle.ranges.specs.Ranges.{readableOf}
+use Rattle.memory.specs.Memory.{readOf}
 use Rattle.adpcm.specs.Context.{contextOf}
 use Rattle.adpcm.specs.declared.context.AdpcmContext.{AdpcmContext}
 use Rattle.floats.specs.Defs.{zero32}
 use Rattle.voice.specs.Queue.{bufferAt, endBuffer}
 use Rattle.voice.specs.declared.wave.WaveBuffer.{WaveBuffer}
 use Rattle.voice.specs.declared.queue.Queue.{Queue}
-use Rattle.plan.specs.declared.Source.{Source}
+use Rattle.ranges.specs.Ascending.{Ascending}
+use Rattle.plan.specs.Source.{Source}
 use Rattle.plan.specs.declared.Act.{Act}
 use Rattle.plan.specs.declared.attempt.Got.{Got}
 use Rattle.plan.specs.declared.attempt.Got.the-variants.{Missing, Samples}
@@ -43,7 +45,7 @@ reset-by true o e = refl
 reset-by false true e = refl
 reset-by false false e = refl
 
-loop-same : (q : Queue) (s : Source) (w : WaveBuffer) (got : ℕ) → loopFused q s w got ≡ record { queue = afterLoop q s w got; going = not (eqb got 0) }
+loop-same : (q : Queue) (s : Source) (w : WaveBuffer) (got : ℕ) → loopFused q s w got ≡ record { queue = afterLoop q (s .decoding) (s .«buffers_v2») w got; going = not (eqb got 0) }
 unfolding loopFused afterLoop loopsOver resetsPlayed
 loop-same q s w got =
     let loops = (q .loops + 1) % 2 ^ 32 in
@@ -53,7 +55,7 @@ loop-same q s w got =
     cond (eqb got 0) (record { queue = e; going = false }) (record { queue = cond (eqb (s .decoding % 2) 0) e (at (e .offset) 0 (e .loops) e); going = true }))
     ∙ reset-by (eqb got 0) (eqb (s .decoding % 2) 0) _
 
-move-same : (q : Queue) (s : Source) (w : WaveBuffer) (total got : ℕ) → moveFused q s w total got ≡ afterGot q s w total got
+move-same : (q : Queue) (s : Source) (w : WaveBuffer) (total got : ℕ) → moveFused q s w total got ≡ afterGot q (s .decoding) (s .«buffers_v2») w total got
 unfolding moveFused afterGot spanOver afterMissing
 move-same q s w total got =
     let moved = at ((q .offset + got) % 2 ^ 32) ((q .played + got) % 2 ^ 64) (q .loops) q in
@@ -87,7 +89,7 @@ unfolding roundOf
 act-of q s w total act Missing = refl
 act-of q s w total act (Samples n) = refl
 
-module _ (s : Source) (m : List ℕ) (table : List ℤ) (size : s .size ≡ length m) (count : ℕ) where
+module _ (s : Source) (m : List ℕ) (table : List ℤ) (laid : Ascending (length m) 0 (s .ranges)) (count : ℕ) where
   -- a round, of channels whose contexts are z
   round-same : (f : Fetching) (z : ℕ → AdpcmContext) → z 0 ≡ f .adpcm
       → (let r = roundPlan (f .queue) s (count - f .done) in
@@ -97,7 +99,7 @@ module _ (s : Source) (m : List ℕ) (table : List ℤ) (size : s .size ≡ leng
   round-same f z e =
       let q = f .queue in
       let w = bufferAt q (q .index) in
-      let ctx = contextOf (readOf (s .base) m (w .context) 6) in
+      let ctx = contextOf (readOf (s .ranges) m (w .context) 6) in
       let renews : Bool = renewsOf s w (q .offset) in
       let y : ℕ → AdpcmContext = λ c. cond renews ctx (z c) in
       let looped = inLoop (s .«buffers_v2») w (q .loops) in
@@ -107,10 +109,10 @@ module _ (s : Source) (m : List ℕ) (table : List ℤ) (size : s .size ≡ leng
       let pos = (start + q .offset) % 2 ^ 32 in
       let tried = decodePlan s w (sample pos) want in
       let act : Act = record { renews = renews; context = w .context; decode = tried .decode } in
-      let read : ℕ → Bool = λ k. eqb (q .offset) 0 && (eqb (s .format) 6 && (not (eqb (w .context) 0) && readableOf (s .base) k (w .context) 6)) in
-      let d : decodeFused s m table w pos want (cond (read (length m)) ctx (f .adpcm)) (f .rows) ≡ made s m table size (f .rows) y tried =
-      (λ i. decodeFused s m table w pos want (cond (read (sym size i)) ctx (sym e i)) (f .rows)) ∙ decode-same s m table size (f .rows) y w (sample pos) want in
-      (λ i. turnOf f s w total (d i) (d i .got)) ∙ turn-same f s w total (made s m table size (f .rows) y tried) act (tried .got)
+      let read = eqb (q .offset) 0 && (eqb (s .format) 6 && (not (eqb (w .context) 0) && readableOf (s .ranges) (w .context) 6)) in
+      let d : decodeFused s m table w pos want (cond read ctx (f .adpcm)) (f .rows) ≡ made s m table laid (f .rows) y tried =
+      (λ i. decodeFused s m table w pos want (cond read ctx (sym e i)) (f .rows)) ∙ decode-same s m table laid (f .rows) y w (sample pos) want in
+      (λ i. turnOf f s w total (d i) (d i .got)) ∙ turn-same f s w total (made s m table laid (f .rows) y tried) act (tried .got)
       ∙ (λ i.
       let a = sym (act-of q s w total act (tried .got)) i in
       turned f (roundOf q s w total act (tried .got)) (perform s m table 0 a (fresh (z 0)) .adpcm) (eachRow (λ (c : ℕ) (l : List Float). l ++ perform s m table c a (fresh (z c)) .out) 0 (f .rows)))
@@ -170,7 +172,7 @@ each-where f g e c no-rows = refl
 each-where f g e c (a-row {h} l r) = λ i. e c h l i ∷ each-where f g e (suc c) r i
 
 -- the samples are as many as the plan says
-all-count : (s : Source) (m : List ℕ) (table : List ℤ) (c count : ℕ) {made done : ℕ} {acts : List Act} → s .size ≡ length m → Fits s count made acts done
+all-count : (s : Source) (m : List ℕ) (table : List ℤ) (c count : ℕ) {made done : ℕ} {acts : List Act} → Ascending (length m) 0 (s .ranges) → Fits s count made acts done
     → (x : AdpcmContext) (o : List Float) → length o ≡ made → length (performAll s m table c acts (record { adpcm = x; out = o }) .out) ≡ done
 unfolding performAll
 all-count s m table c count z fits-none x o e = e
@@ -198,11 +200,11 @@ finished count g = record { queue = g .queue; adpcm = g .adpcm; rows = eachRow (
 abbrev unplanned : Queue → Source → Planned
 unplanned q s = record { queue = q; acts = []; rounds = 0; done = 0; table = hasTable s }
 
-abbrev readsTable : Source → ℕ → Bool
-readsTable s k = eqb (s .format) 6 && readableOf (s .base) k (s .«data_source») 32
+abbrev readsTable : Source → Bool
+readsTable s = eqb (s .format) 6 && readableOf (s .ranges) (s .«data_source») 32
 
 fetch-is : (q : Queue) (s : Source) (count : ℕ) (m : List ℕ) (x : AdpcmContext) (rows : List (List Float))
-    → fetchFused q s count m x rows ≡ finished count (roundsFused 64 (headOf count (begun q x rows)) s m (tableOf (readsTable s (length m)) s m) count (begun q x rows))
+    → fetchFused q s count m x rows ≡ finished count (roundsFused 64 (headOf count (begun q x rows)) s m (tableOf (readsTable s) s m) count (begun q x rows))
 unfolding fetchFused
 fetch-is q s count m x rows = refl
 
@@ -210,17 +212,17 @@ plan-is : (q : Queue) (s : Source) (count : ℕ) (x : AdpcmContext) (rows : List
 unfolding planOf more
 plan-is q s count x rows = refl
 
-table-is : (s : Source) → hasTable s ≡ readsTable s (s .size)
+table-is : (s : Source) → hasTable s ≡ readsTable s
 unfolding hasTable
 table-is s = refl
 
-module _ (q : Queue) (s : Source) (count : ℕ) (m : List ℕ) (x : AdpcmContext) (rows : List (List Float)) (size : s .size ≡ length m) where
-  begun-same : (table : List ℤ) → begun q x rows ≡ stateOf s m table size count x rows (unplanned q s)
+module _ (q : Queue) (s : Source) (count : ℕ) (m : List ℕ) (x : AdpcmContext) (rows : List (List Float)) (laid : Ascending (length m) 0 (s .ranges)) where
+  begun-same : (table : List ℤ) → begun q x rows ≡ stateOf s m table laid count x rows (unplanned q s)
   unfolding performAll
   begun-same table = λ i. begun q x ((each-id 0 rows ∙ each-same _ _ (λ c r. sym (append-nil r)) 0 rows) i)
 
   ended-same : (table : List ℤ) (p : Planned) → Fits s count 0 (p .acts) (p .done) → p .done ≤ count → Histories rows
-      → finished count (stateOf s m table size count x rows p)
+      → finished count (stateOf s m table laid count x rows p)
       ≡ record {
         queue = p .queue;
         adpcm = performAll s m table 0 (p .acts) (fresh x) .adpcm;
@@ -231,11 +233,11 @@ module _ (q : Queue) (s : Source) (count : ℕ) (m : List ℕ) (x : AdpcmContext
   ended-same table p f le hs =
       let e = each-each (λ (c : ℕ) (r : List Float). resized (3 + count) r) (λ (c : ℕ) (l : List Float). l ++ performAll s m table c (p .acts) (fresh x) .out) 0 rows
       ∙ each-where _ (λ (c : ℕ) (h : List Float). rowOf h count (p .done) (performAll s m table c (p .acts) (fresh x)))
-      (λ c h l. resized-row h _ count (p .done) (performAll s m table c (p .acts) (fresh x) .adpcm) l (all-count s m table c count size f x [] refl) le) 0 hs in
+      (λ c h l. resized-row h _ count (p .done) (performAll s m table c (p .acts) (fresh x) .adpcm) l (all-count s m table c count laid f x [] refl) le) 0 hs in
       λ i. record { queue = p .queue; adpcm = performAll s m table 0 (p .acts) (fresh x) .adpcm; rows = e i; done = p .done; rounds = p .rounds }
 
 -- the Rust's fetch is the plan, and the sound of every channel
-pub fused : (q : Queue) (s : Source) (count : ℕ) (m : List ℕ) (x : AdpcmContext) (rows : List (List Float)) → s .size ≡ length m → Histories rows
+pub fused : (q : Queue) (s : Source) (count : ℕ) (m : List ℕ) (x : AdpcmContext) (rows : List (List Float)) → Ascending (length m) 0 (s .ranges) → Histories rows
     → (let p = planOf q s count in
     let table = tableOf (p .table) s m in
     fetchFused q s count m x rows
@@ -246,13 +248,13 @@ pub fused : (q : Queue) (s : Source) (count : ℕ) (m : List ℕ) (x : AdpcmCont
       done = p .done;
       rounds = p .rounds;
     })
-fused q s count m x rows size hs =
+fused q s count m x rows laid hs =
     let p = planOf q s count in
     let table = tableOf (p .table) s m in
     let b = headOf count (begun q x rows) in
-    let t : readsTable s (length m) ≡ p .table = (λ i. readsTable s (sym size i)) ∙ sym (table-is s) ∙ sym (plan-table q s count) in
+    let t : readsTable s ≡ p .table = sym (table-is s) ∙ sym (plan-table q s count) in
     fetch-is q s count m x rows
-    ∙ (λ i. finished count (roundsFused 64 b s m (tableOf (t i) s m) count (begun-same q s count m x rows size (tableOf (t i) s m) i)))
-    ∙ ap (finished count) (rounds-same s m table size count x rows 64 b (unplanned q s))
-    ∙ ap (λ (p : Planned). finished count (stateOf s m table size count x rows p)) (plan-is q s count x rows)
-    ∙ ended-same q s count m x rows size table p (plan-made q s count .fits) (plan-made q s count .upto) hs
+    ∙ (λ i. finished count (roundsFused 64 b s m (tableOf (t i) s m) count (begun-same q s count m x rows laid (tableOf (t i) s m) i)))
+    ∙ ap (finished count) (rounds-same s m table laid count x rows 64 b (unplanned q s))
+    ∙ ap (λ (p : Planned). finished count (stateOf s m table laid count x rows p)) (plan-is q s count x rows)
+    ∙ ended-same q s count m x rows laid table p (plan-made q s count .fits) (plan-made q s count .upto) hs

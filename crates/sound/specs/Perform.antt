@@ -11,14 +11,15 @@ use lib.Dec.{eqb}
 use native.Mathlib.Omega.{arith}
 use borrow.Author.Tests.{eqb-true, eqb-false, ne-eqb}
 use Rattle.memory.specs.Memory.{readOf}
-use Rattle.memory.specs.Laws.{length-read}
+use Rattle.memory.proofs.Bytes.{length-read}
 use Rattle.adpcm.specs.Context.{contextOf}
 use Rattle.adpcm.specs.Decode.{runOf, floated, Decodes}
 use Rattle.adpcm.specs.Runs.{countOf, run-count}
 use Rattle.floats.specs.Defs.{zero32}
 use Rattle.adpcm.specs.declared.context.AdpcmContext.{AdpcmContext}
 use Rattle.adpcm.specs.declared.places.Sample.{Sample}
-use Rattle.plan.specs.declared.Source.{Source}
+use Rattle.ranges.specs.Ascending.{Ascending}
+use Rattle.plan.specs.Source.{Source}
 use Rattle.plan.specs.declared.Act.{Act}
 use Rattle.plan.specs.declared.Decode.{Decode}
 use Rattle.plan.specs.declared.Decode.the-variants.{Nothing, Pcm, Adpcm, Silence}
@@ -33,19 +34,25 @@ use Rattle.sound.specs.Sound.{pcmOf, Deck, decodeAdpcm, decodeOn, perfor
 abbrev pub fresh : AdpcmContext → Deck
 fresh x = record { adpcm = x; out = [] }
 
--- what a decode asks: room for its samples, and that its read succeeds
+-- the most samples that a round makes: a fetch's
+abbrev pub mostSamples : ℕ
+mostSamples = 4097
+
+-- what a decode asks: room for its samples, which are few, and that its read succeeds
 pub record Room (s : Source) (m : List ℕ) (d : Decode) (out : List Float) : Type 0 where
-  pub size : s .size ≡ length m
+  pub memory : Ascending (length m) 0 (s .ranges)
   pub channels : s .channels ≤ 6
   pub want : wantOf d ≤ length out
+  pub few : wantOf d ≤ mostSamples
   pub reads : readsOf s d ≡ true
   pub formed : formedOf d ≡ true
 
 -- the same from a place of a row on
 pub record RoomAt (s : Source) (m : List ℕ) (d : Decode) (at : ℕ) (row : List Float) : Type 0 where
-  pub size : s .size ≡ length m
+  pub memory : Ascending (length m) 0 (s .ranges)
   pub channels : s .channels ≤ 6
   pub want : at + wantOf d ≤ length row
+  pub few : wantOf d ≤ mostSamples
   pub reads : readsOf s d ≡ true
   pub formed : formedOf d ≡ true
 
@@ -72,7 +79,7 @@ wide-le w h = by-width (eqb w 2) refl where
   by-width true e = omega (arith, eqb-true w 2 e)
   by-width false e = omega (arith, four-wide h (eqb-false w 2 e))
 
-length-pcm : (width channels c : ℕ) (d : List ℕ) (n : ℕ) → length (pcmOf width channels c d n) ≡ n
+pub length-pcm : (width channels c : ℕ) (d : List ℕ) (n : ℕ) → length (pcmOf width channels c d n) ≡ n
 unfolding pcmOf
 length-pcm width channels c d n = length-tab n _
 
@@ -107,13 +114,13 @@ module _ (s : Source) (m : List ℕ) (table : List ℤ) (c : ℕ) (x : AdpcmCont
   on-nothing before e = rw e (front [] before before refl refl refl)
 
   pub on-pcm : (width addr n : ℕ) {before after : List Float} → d ≡ Pcm width addr n
-      → after ≡ pcmOf width (s .channels) c (readOf (s .base) m addr (n * (width * s .channels))) n ++ drop n before
+      → after ≡ pcmOf width (s .channels) c (readOf (s .ranges) m addr (n * (width * s .channels))) n ++ drop n before
       → Performed (decodeOn s m table c d (fresh x)) before after n x
   unfolding decodeOn
   on-pcm width addr n {before} {after} e f = rw e (front _ before after (length-pcm width (s .channels) c _ n) refl f)
 
   pub on-adpcm : (addr bytes : ℕ) (start : Sample) (want : ℕ) {before after : List Float} {n : ℕ} {y : AdpcmContext} → d ≡ Adpcm want addr bytes start
-      → Performed (decodeAdpcm c (readOf (s .base) m addr bytes) start want table (fresh x)) before after n y
+      → Performed (decodeAdpcm c (readOf (s .ranges) m addr bytes) start want table (fresh x)) before after n y
       → Performed (decodeOn s m table c d (fresh x)) before after n y
   unfolding decodeOn
   on-adpcm addr bytes start want e p = rw e p
@@ -134,15 +141,15 @@ decode-after s m table (suc c) (Adpcm want addr bytes start) x o = refl
 decode-after s m table c (Silence n) x o = refl
 
 -- there are as many as the plan says
-pub decode-count : (s : Source) (m : List ℕ) (table : List ℤ) (c : ℕ) (d : Decode) (x : AdpcmContext) → s .size ≡ length m → readsOf s d ≡ true
+pub decode-count : (s : Source) (m : List ℕ) (table : List ℤ) (c : ℕ) (d : Decode) (x : AdpcmContext) → Ascending (length m) 0 (s .ranges) → readsOf s d ≡ true
     → length (decodeOn s m table c d (fresh x) .out) ≡ madeOf d
 unfolding decodeOn decodeAdpcm
 decode-count s m table c Nothing x h r = refl
 decode-count s m table c (Pcm width addr n) x h r = length-pcm width (s .channels) c _ n
 decode-count s m table zero (Adpcm want addr bytes start) x h r =
-    length-map (runOf (readOf (s .base) m addr bytes) (start .0) want table x .samples) (ofInt binary32) ∙ run-count (readOf (s .base) m addr bytes) (start .0) want table x ∙ ap (λ (n : ℕ). countOf n (start .0) want) (length-read (s .base) m addr bytes (rw h at r))
+    length-map (runOf (readOf (s .ranges) m addr bytes) (start .0) want table x .samples) (ofInt binary32) ∙ run-count (readOf (s .ranges) m addr bytes) (start .0) want table x ∙ ap (λ (n : ℕ). countOf n (start .0) want) (length-read m (s .ranges) addr bytes h r)
 decode-count s m table (suc c) (Adpcm want addr bytes start) x h r =
-    length-replicate _ zero32 ∙ ap (λ (n : ℕ). countOf n (start .0) want) (length-read (s .base) m addr bytes (rw h at r))
+    length-replicate _ zero32 ∙ ap (λ (n : ℕ). countOf n (start .0) want) (length-read m (s .ranges) addr bytes h r)
 decode-count s m table c (Silence n) x h r = length-replicate n zero32
 
 module _ {s : Source} {m : List ℕ} {d e : Decode} {out : List Float} (h : d ≡ e) (r : Room s m d out) where
@@ -152,7 +159,7 @@ module _ {s : Source} {m : List ℕ} {d e : Decode} {out : List Float} (h : d �
 -- ---- an act
 
 pub performed-at : (s : Source) (m : List ℕ) (table : List ℤ) (c : ℕ) (a : Act) (x : AdpcmContext) {y z : AdpcmContext} (at : ℕ) {row part after whole : List Float} {n : ℕ}
-    → y ≡ cond (a .renews) (contextOf (readOf (s .base) m (a .context) 6)) x → part ≡ drop at row → whole ≡ take at row ++ after
+    → y ≡ cond (a .renews) (contextOf (readOf (s .ranges) m (a .context) 6)) x → part ≡ drop at row → whole ≡ take at row ++ after
     → Performed (decodeOn s m table c (a .decode) (fresh y)) part after n z → PerformedAt at (perform s m table c a (fresh x)) row whole n z
 unfolding perform
 performed-at s m table c a x at {row} {part} {after} {whole} {n} e f g p =
@@ -162,8 +169,3 @@ performed-at s m table c a x at {row} {part} {after} {whole} {n} e f g p =
       context = p .context ∙ (λ i. k i .adpcm);
       output = g ∙ ap (λ (l : List Float). take at row ++ l) (p .output ∙ (λ i. k i .out ++ (ap (drop n) f ∙ drop-drop n at row) i));
     }
-
--- the bytes of an ADPCM read are all there
-pub room-length : {s : Source} {m : List ℕ} {addr bytes want : ℕ} {start : Sample} {out : List Float} → Room s m (Adpcm want addr bytes start) out
-    → length (readOf (s .base) m addr bytes) ≡ bytes
-room-length {s} {m} {addr} {bytes} r = length-read (s .base) m addr bytes (rw (r .size) at (r .reads))

@@ -14,7 +14,7 @@ use Rattle.adpcm.specs.Decode.{runOf, floated}
 use Rattle.adpcm.specs.Runs.{countOf}
 use Rattle.adpcm.specs.declared.context.AdpcmContext.{AdpcmContext}
 use Rattle.adpcm.specs.declared.places.Sample.{Sample}
-use Rattle.plan.specs.declared.Source.{Source}
+use Rattle.plan.specs.Source.{Source}
 use Rattle.plan.specs.declared.Act.{Act}
 use Rattle.plan.specs.declared.Decode.{Decode}
 use Rattle.plan.specs.declared.Decode.the-variants.{Nothing, Pcm, Adpcm, Silence}
@@ -24,7 +24,7 @@ use Rattle.sound.specs.Fill.{tab}
 -- the coefficients: 16 signed numbers of 16 bits, zeros where they can't be read
 unfoldable pub tableOf : Bool → Source → List ℕ → List ℤ
 tableOf false s m = replicate 16 (pos 0)
-tableOf true s m = coefficientsOf (readOf (s .base) m (s .«data_source») 32)
+tableOf true s m = coefficientsOf (readOf (s .ranges) m (s .«data_source») 32)
 
 -- a PCM sample of a width at a byte: 16 bits as they are, a float times 32768
 unfoldable pub pcmAt : ℕ → List ℕ → ℕ → Float
@@ -52,13 +52,13 @@ unfoldable pub decodeOn : Source → List ℕ → List ℤ → ℕ → Decode �
 unfolding decodeAdpcm pcmOf
 decodeOn s m table c Nothing k = k
 decodeOn s m table c (Pcm width addr n) k =
-    record { adpcm = k .adpcm; out = k .out ++ pcmOf width (s .channels) c (readOf (s .base) m addr (n * (width * s .channels))) n }
-decodeOn s m table c (Adpcm want addr bytes start) k = decodeAdpcm c (readOf (s .base) m addr bytes) start want table k
+    record { adpcm = k .adpcm; out = k .out ++ pcmOf width (s .channels) c (readOf (s .ranges) m addr (n * (width * s .channels))) n }
+decodeOn s m table c (Adpcm want addr bytes start) k = decodeAdpcm c (readOf (s .ranges) m addr bytes) start want table k
 decodeOn s m table c (Silence n) k = record { adpcm = k .adpcm; out = k .out ++ replicate n zero32 }
 
 -- an act: a context that is read first, then the decode
 abbrev pub renewed : Source → List ℕ → Act → Deck → Deck
-renewed s m a k = record { adpcm = cond (a .renews) (contextOf (readOf (s .base) m (a .context) 6)) (k .adpcm); out = k .out }
+renewed s m a k = record { adpcm = cond (a .renews) (contextOf (readOf (s .ranges) m (a .context) 6)) (k .adpcm); out = k .out }
 
 unfoldable pub perform : Source → List ℕ → List ℤ → ℕ → Act → Deck → Deck
 unfolding decodeOn

@@ -1,12 +1,17 @@
 // One act of a plan, on one channel.
 ghost use mathlib.Core.Path.{_≡_};
-ghost use mathlib.Core.Bool.{cond};
-ghost use mathlib.Core.List.{[]};
+ghost use mathlib.Core.Bool.{true, cond};
+ghost use Prim.Native.Nat.{_≤_, _<_};
+ghost use lib.ListN.{length};
+ghost use Rattle.ranges.specs.Ranges.{rangesOf, readableOf};
+ghost use Rattle.ranges.specs.Ascending.{Ascending};
 ghost use Rattle.memory.specs.Memory.{readOf};
 ghost use Rattle.adpcm.specs.Context.{contextOf};
 ghost use Rattle.plan.specs.declared.Decode.the-variants.{Adpcm};
+ghost use Rattle.plan.specs.Source.{over};
+ghost use Rattle.plan.specs.Fits.{formedOf};
 ghost use Rattle.sound.specs.Sound.{decodeAdpcm, decodeOn, perform};
-ghost use Rattle.sound.specs.Perform.{fresh, Room, RoomAt, Performed, PerformedAt};
+ghost use Rattle.sound.specs.Perform.{mostSamples, fresh, Room, RoomAt, Performed, PerformedAt};
 use crate::pcm::pcm;
 use crate::pcm::zeros;
 use adpcm::AdpcmContext;
@@ -27,19 +32,31 @@ fn play_adpcm(
     bytes: u64,
     start: Sample,
     want: u32,
-    s: Source,
+    ranges: &[u64],
     memory: &[u8],
     coefficients: &[i16; 16],
     x: AdpcmContext,
     c: u32,
     out: &mut [f32],
 ) -> Played
-    requires { ⌜ Room s (now memory) (Adpcm want addr bytes start) (now out) ⌝ }
-    ensures { λ r. ⌜ Performed (decodeAdpcm c (readOf (s .base) (now (memory .entry)) addr bytes) start want (now (coefficients .entry)) (fresh x)) (now (out .entry)) (now (out .exit)) (r .made) (r .adpcm) ⌝ }
+    requires { ⌜ Ascending (length (now memory)) 0 (rangesOf (now ranges)) ⌝ }
+    requires { ⌜ (readableOf (rangesOf (now ranges)) addr bytes ≡ true) × (formedOf (Adpcm want addr bytes start) ≡ true) ⌝ }
+    requires { ⌜ (want ≤ length (now out)) × (want ≤ mostSamples) ⌝ }
+    ensures { λ r. ⌜ Performed (decodeAdpcm c (readOf (rangesOf (now (ranges .entry))) (now (memory .entry)) addr bytes) start want
+        (now (coefficients .entry)) (fresh x)) (now (out .entry)) (now (out .exit)) (r .made) (r .adpcm) ⌝ }
 {
     if c == 0 {
-        let d = memory::read(memory, s.base, addr, bytes);
-        let r = adpcm::decode_adpcm(d, start, want as usize, coefficients, x, out);
+        let r = across::decode_adpcm(
+            ranges,
+            memory,
+            addr,
+            bytes,
+            start,
+            want as usize,
+            coefficients,
+            x,
+            out,
+        );
         let left = r.context;
         return Played {
             made: r.done,
@@ -55,26 +72,41 @@ fn play_adpcm(
 fn play_decode(
     decode: Decode,
     s: Source,
+    ranges: &[u64],
     memory: &[u8],
     coefficients: &[i16; 16],
     x: AdpcmContext,
     c: u32,
     out: &mut [f32],
 ) -> Played
-    requires { ⌜ Room s (now memory) decode (now out) ⌝ }
-    ensures { λ r. ⌜ Performed (decodeOn s (now (memory .entry)) (now (coefficients .entry)) c decode (fresh x)) (now (out .entry)) (now (out .exit)) (r .made) (r .adpcm) ⌝ }
+    requires { ⌜ Room (over s (now ranges)) (now memory) decode (now out) ⌝ }
+    requires { ⌜ c < s .channels ⌝ }
+    ensures { λ r. ⌜ Performed
+        (decodeOn (over s (now (ranges .entry))) (now (memory .entry)) (now (coefficients .entry)) c decode (fresh x))
+        (now (out .entry)) (now (out .exit)) (r .made) (r .adpcm) ⌝ }
 {
     match decode {
         Decode::Nothing => Played { made: 0, adpcm: x },
         Decode::Pcm(width, addr, n) => {
-            pcm(width, addr, n, s, memory, c, out);
+            pcm(width, addr, n, s, ranges, memory, c, out);
             Played {
                 made: n as usize,
                 adpcm: x,
             }
         }
         Decode::Adpcm(want, addr, bytes, start) => {
-            play_adpcm(addr, bytes, start, want, s, memory, coefficients, x, c, out)
+            play_adpcm(
+                addr,
+                bytes,
+                start,
+                want,
+                ranges,
+                memory,
+                coefficients,
+                x,
+                c,
+                out,
+            )
         }
         Decode::Silence(n) => {
             zeros(n as usize, out);
@@ -87,11 +119,12 @@ fn play_decode(
 }
 
 // The ADPCM context that a buffer begins with, where one is read.
-fn renew(renews: bool, context: u64, base: u64, memory: &[u8], x: AdpcmContext) -> AdpcmContext
-    ensures { λ r. ⌜ r ≡ cond renews (contextOf (readOf base (now (memory .entry)) context 6)) x ⌝ }
+fn renew(renews: bool, context: u64, ranges: &[u64], memory: &[u8], x: AdpcmContext) -> AdpcmContext
+    requires { ⌜ Ascending (length (now memory)) 0 (rangesOf (now ranges)) ⌝ }
+    ensures { λ r. ⌜ r ≡ cond renews (contextOf (readOf (rangesOf (now (ranges .entry))) (now (memory .entry)) context 6)) x ⌝ }
 {
     if renews {
-        return AdpcmContext::parse(memory::read(memory, base, context, 6));
+        return across::context(ranges, memory, context);
     }
     x
 }
@@ -100,6 +133,7 @@ fn renew(renews: bool, context: u64, base: u64, memory: &[u8], x: AdpcmContext) 
 pub fn play(
     a: Act,
     s: Source,
+    ranges: &[u64],
     memory: &[u8],
     coefficients: &[i16; 16],
     x: AdpcmContext,
@@ -107,10 +141,22 @@ pub fn play(
     out: &mut [f32],
     at: usize,
 ) -> Played
-    requires { ⌜ RoomAt s (now memory) (a .decode) at (now out) ⌝ }
-    ensures { λ r. ⌜ PerformedAt at (perform s (now (memory .entry)) (now (coefficients .entry)) c a (fresh x)) (now (out .entry)) (now (out .exit)) (r .made) (r .adpcm) ⌝ }
+    requires { ⌜ RoomAt (over s (now ranges)) (now memory) (a .decode) at (now out) ⌝ }
+    requires { ⌜ c < s .channels ⌝ }
+    ensures { λ r. ⌜ PerformedAt at
+        (perform (over s (now (ranges .entry))) (now (memory .entry)) (now (coefficients .entry)) c a (fresh x))
+        (now (out .entry)) (now (out .exit)) (r .made) (r .adpcm) ⌝ }
 {
-    let y = renew(a.renews, a.context, s.base, memory, x);
+    let y = renew(a.renews, a.context, ranges, memory, x);
     let decode = a.decode;
-    play_decode(decode, s, memory, coefficients, y, c, &mut out[at..])
+    play_decode(
+        decode,
+        s,
+        ranges,
+        memory,
+        coefficients,
+        y,
+        c,
+        &mut out[at..],
+    )
 }

@@ -1,6 +1,7 @@
 // A channel's row for the resampler: its history, the samples of the rounds, zeros.
-ghost use Prim.Native.Nat.{_-_};
+ghost use Prim.Native.Nat.{_-_, _<_};
 ghost use lib.ListN.{length};
+ghost use Rattle.plan.specs.Source.{over};
 ghost use Rattle.sound.specs.Channel.{Ready, FetchedBy};
 use crate::act::play;
 use crate::pcm::zeros_from;
@@ -12,6 +13,7 @@ use voice::Queue;
 pub fn fetch_channel(
     q: Queue,
     s: Source,
+    ranges: &[u64],
     memory: &[u8],
     coefficients: &[i16; 16],
     adpcm: AdpcmContext,
@@ -19,8 +21,9 @@ pub fn fetch_channel(
     c: u32,
     out: &mut [f32],
 ) -> AdpcmContext
-    requires { ⌜ Ready q s (now memory) (now out) ⌝ }
-    ensures { λ r. ⌜ FetchedBy q s (now (memory .entry)) (now (coefficients .entry)) c adpcm history
+    requires { ⌜ Ready q (over s (now ranges)) (now memory) (now out) ⌝ }
+    requires { ⌜ c < s .channels ⌝ }
+    ensures { λ r. ⌜ FetchedBy q (over s (now (ranges .entry))) (now (memory .entry)) (now (coefficients .entry)) c adpcm history
         (length (now (out .entry)) - 3) (now (out .exit)) r ⌝ }
 {
     out[0] = history[0];
@@ -36,9 +39,19 @@ pub fn fetch_channel(
     while rounds < 64 && going {
         let b = spot.index as usize;
         let wb = buffers[b];
-        let r = plan::plan_round(wb, spot, s, count - done);
+        let r = plan::plan_round(wb, spot, s, ranges, count - done);
         let act = r.act;
-        let p = play(act, s, memory, coefficients, x, c, out, 3 + done as usize);
+        let p = play(
+            act,
+            s,
+            ranges,
+            memory,
+            coefficients,
+            x,
+            c,
+            out,
+            3 + done as usize,
+        );
         let left = p.adpcm;
         x = left;
         let next = r.spot;

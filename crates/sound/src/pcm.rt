@@ -2,9 +2,11 @@
 ghost use mathlib.Core.Path.{_≡_};
 ghost use mathlib.Core.Bool.{true, _||_};
 ghost use mathlib.Core.List.{_++_};
-ghost use Prim.Native.Nat.{_+_, _-_, _*_, _≤_, _<_, _^_};
+ghost use Prim.Native.Nat.{_+_, _-_, _*_, _/_, _≤_, _<_, _^_, min};
 ghost use lib.Dec.{eqb};
 ghost use lib.ListN.{length, take, drop, replicate};
+ghost use Rattle.ranges.specs.Ranges.{rangesOf, readableOf};
+ghost use Rattle.ranges.specs.Ascending.{Ascending};
 ghost use Rattle.memory.specs.Memory.{readOf};
 ghost use Rattle.floats.specs.Defs.{zero32};
 ghost use Rattle.sound.specs.Sound.{pcmAt, pcmOf};
@@ -77,19 +79,138 @@ pub fn zeros_from(out: &mut [f32], at: usize)
     zeros(n, &mut out[at..]);
 }
 
-// Channel c of n frames of a width that are read at an address, into the front of out.
-pub fn pcm(width: u32, addr: u64, n: u32, s: Source, memory: &[u8], c: u32, out: &mut [f32])
-    requires { ⌜ (eqb width 2 || eqb width 4 ≡ true) × (s .channels ≤ 6) × (n ≤ length (now out)) ⌝ }
-    ensures { λ _. ⌜ now (out .exit) ≡ pcmOf width (s .channels) c (readOf (s .base) (now (memory .entry)) addr (n * (width * s .channels))) n ++ drop n (now (out .entry)) ⌝ }
+// How many whole frames a stretch has room for, at most n.
+fn whole_frames(room: u64, frame: u64, n: u64) -> u64
+    requires { ⌜ 0 < frame ⌝ }
+    ensures { λ r. ⌜ r ≡ min n (room / frame) ⌝ }
 {
-    let frame = (width * s.channels) as u64;
-    let d = memory::read(memory, s.base, addr, n as u64 * frame);
-    frames(
+    let whole = room / frame;
+    if whole < n {
+        return whole;
+    }
+    n
+}
+
+// One frame at an address that no range has whole: it is gathered. Its sample of channel c into the front of out.
+fn straddling_frame(
+    width: usize,
+    addr: u64,
+    channels: usize,
+    ranges: &[u64],
+    memory: &[u8],
+    c: usize,
+    out: &mut [f32],
+)
+    requires { ⌜ eqb width 2 || eqb width 4 ≡ true ⌝ }
+    requires { ⌜ (channels ≤ 6) × (c < channels) × (1 ≤ length (now out)) ⌝ }
+    requires { ⌜ Ascending (length (now memory)) 0 (rangesOf (now ranges)) ⌝ }
+    requires { ⌜ readableOf (rangesOf (now ranges)) addr (width * channels) ≡ true ⌝ }
+    ensures { λ _. ⌜ now (out .exit)
+        ≡ pcmOf width channels c (readOf (rangesOf (now (ranges .entry))) (now (memory .entry)) addr (width * channels)) 1
+        ++ drop 1 (now (out .entry)) ⌝ }
+{
+    let frame = width * channels;
+    let block = across::frame(ranges, memory, addr, frame);
+    frames(width, &block[..frame], channels, c, 1, out);
+}
+
+// The first of n frames at an address: those that its range has whole, from the slice itself, or one where it has none.
+// Channel c into the front of out. Gives how many frames.
+fn next_frames(
+    width: usize,
+    addr: u64,
+    n: usize,
+    channels: usize,
+    ranges: &[u64],
+    memory: &[u8],
+    c: usize,
+    out: &mut [f32],
+) -> usize
+    requires { ⌜ eqb width 2 || eqb width 4 ≡ true ⌝ }
+    requires { ⌜ (channels ≤ 6) × (c < channels) × (0 < n) × (n < 2 ^ 32) × (n ≤ length (now out)) ⌝ }
+    requires { ⌜ Ascending (length (now memory)) 0 (rangesOf (now ranges)) ⌝ }
+    requires { ⌜ readableOf (rangesOf (now ranges)) addr (n * (width * channels)) ≡ true ⌝ }
+    ensures { λ r. ⌜ (0 < r) × (r ≤ n) ⌝ }
+    ensures { λ r. ⌜ now (out .exit)
+        ≡ pcmOf width channels c (readOf (rangesOf (now (ranges .entry))) (now (memory .entry)) addr (r * (width * channels))) r
+        ++ drop r (now (out .entry)) ⌝ }
+{
+    let frame = width * channels;
+    let s = ranges::stretch_at(ranges, addr);
+    let whole = whole_frames(s.room, frame as u64, n as u64) as usize;
+    if whole == 0 {
+        straddling_frame(width, addr, channels, ranges, memory, c, out);
+        return 1;
+    }
+    let at = s.at as usize;
+    let end = at + whole * frame;
+    frames(width, &memory[at..end], channels, c, whole, out);
+    whole
+}
+
+// Channel c of n frames at an address, stretch by stretch, into the front of out.
+fn all_frames(
+    width: usize,
+    addr: u64,
+    n: usize,
+    channels: usize,
+    ranges: &[u64],
+    memory: &[u8],
+    c: usize,
+    out: &mut [f32],
+)
+    requires { ⌜ eqb width 2 || eqb width 4 ≡ true ⌝ }
+    requires { ⌜ (channels ≤ 6) × (c < channels) × (n < 2 ^ 32) × (n ≤ length (now out)) ⌝ }
+    requires { ⌜ Ascending (length (now memory)) 0 (rangesOf (now ranges)) ⌝ }
+    requires { ⌜ readableOf (rangesOf (now ranges)) addr (n * (width * channels)) ≡ true ⌝ }
+    ensures { λ _. ⌜ now (out .exit)
+        ≡ pcmOf width channels c (readOf (rangesOf (now (ranges .entry))) (now (memory .entry)) addr (n * (width * channels))) n
+        ++ drop n (now (out .entry)) ⌝ }
+{
+    let frame = width * channels;
+    let mut done = 0usize;
+    while done < n {
+        let at = addr + (done * frame) as u64;
+        let made = next_frames(
+            width,
+            at,
+            n - done,
+            channels,
+            ranges,
+            memory,
+            c,
+            &mut out[done..],
+        );
+        done += made;
+    }
+}
+
+// Channel c of n frames of a width that are read at an address, into the front of out.
+pub fn pcm(
+    width: u32,
+    addr: u64,
+    n: u32,
+    s: Source,
+    ranges: &[u64],
+    memory: &[u8],
+    c: u32,
+    out: &mut [f32],
+)
+    requires { ⌜ (eqb width 2 || eqb width 4 ≡ true) × (s .channels ≤ 6) × (c < s .channels) × (n ≤ length (now out)) ⌝ }
+    requires { ⌜ Ascending (length (now memory)) 0 (rangesOf (now ranges)) ⌝ }
+    requires { ⌜ readableOf (rangesOf (now ranges)) addr (n * (width * s .channels)) ≡ true ⌝ }
+    ensures { λ _. ⌜ now (out .exit)
+        ≡ pcmOf width (s .channels) c (readOf (rangesOf (now (ranges .entry))) (now (memory .entry)) addr (n * (width * s .channels))) n
+        ++ drop n (now (out .entry)) ⌝ }
+{
+    all_frames(
         width as usize,
-        d,
-        s.channels as usize,
-        c as usize,
+        addr,
         n as usize,
+        s.channels as usize,
+        ranges,
+        memory,
+        c as usize,
         out,
     );
 }

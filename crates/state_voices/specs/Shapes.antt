@@ -21,7 +21,7 @@ use Rattle.voice_rows.specs.VoiceRow.{voiceOf, wordsOf, longsOf, floatsOf, leng
 use Rattle.row_trips.specs.Trip.{Shaped, voice-again}
 use Rattle.plan.specs.Rounds.{planOf}
 use Rattle.plan.specs.Fits.{plan-made}
-use Rattle.turn.specs.declared.Render.{Render}
+use Rattle.turn.specs.Render.{Render}
 use Rattle.turn.specs.Turn.{freshened, beginOf, sourceOf, neededBy, plannedBy, finished, turnOf}
 use Rattle.turn.specs.Begins.{freshened-same, begin-same, begin-channels, begin-base, begin-index, begin-fraction}
 use Rattle.turn.specs.Laws.{fraction-unit, index-kept}

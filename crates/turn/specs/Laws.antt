@@ -12,7 +12,7 @@ use Rattle.plan.specs.Rounds.{hasTable}
 use Rattle.plan.specs.Fits.{plan-rounds, plan-table, index-lt}
 use Rattle.voice.specs.declared.Voice.{Voice}
 use Rattle.voice.specs.Voice.{queueOf}
-use Rattle.turn.specs.declared.Render.{Render}
+use Rattle.turn.specs.Render.{Render}
 use Rattle.turn.specs.declared.Turn.{Turn}
 use Rattle.turn.specs.Turn.{skipsConversion, speedOf, ratioOf, sourceOf, neededBy, plannedBy, fractionOf, finished, turnOf, told}
 

@@ -1,3 +1,4 @@
+pub mod Render
 pub mod Turn
 pub mod Begins
 pub mod Laws

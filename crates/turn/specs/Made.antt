@@ -8,10 +8,10 @@ use Rattle.resample.specs.Defs.{neededOf, nextOf}
 use Rattle.voice.specs.declared.queue.Queue.{Queue}
 use Rattle.voice.specs.declared.Voice.{Voice}
 use Rattle.voice.specs.Voice.{queueOf}
-use Rattle.plan.specs.declared.Source.{Source}
+use Rattle.plan.specs.Source.{Source}
 use Rattle.plan.specs.declared.rounds.Plan.{Plan}
 use Rattle.plan.specs.Rounds.{planOf, withoutActs}
-use Rattle.turn.specs.declared.Render.{Render}
+use Rattle.turn.specs.Render.{Render}
 use Rattle.turn.specs.declared.Turn.{Turn}
 use Rattle.turn.specs.Turn.{with, ratioOf, sourceOf, neededBy, plannedBy, previousOf, fractionOf, finished, turnOf, told}
 use Rattle.turn.specs.Laws.{needed-few}

@@ -11,9 +11,9 @@ use Rattle.voice.specs.declared.Voice.{Voice}
 use Rattle.voice.specs.declared.ready.Prepared.{Prepared}
 use Rattle.voice.specs.Prepare.{prepareOf}
 use Rattle.voice.specs.Voice.{hasDestination, queueOf}
-use Rattle.plan.specs.declared.Source.{Source}
+use Rattle.plan.specs.Source.{Source}
 use Rattle.plan.specs.Rounds.{Planned, planOf, withoutActs}
-use Rattle.turn.specs.declared.Render.{Render}
+use Rattle.turn.specs.Render.{Render}
 use Rattle.turn.specs.declared.Turn.{Turn}
 
 -- ---- whether the voice takes part, and what comes before its fetch
@@ -90,8 +90,7 @@ sourceOf v r = record {
   decoding = v .decoding;
   «data_source» = v .«data_source»;
   «buffers_v2» = r .«buffers_v2»;
-  base = r .base;
-  size = r .size;
+  ranges = r .ranges;
 }
 
 -- the samples that it needs

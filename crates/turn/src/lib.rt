@@ -6,20 +6,22 @@ use voice::Prepared;
 use voice::Queue;
 use voice::Voice;
 ghost use mathlib.Core.Path.{_≡_};
-ghost use Prim.Native.Nat.{_≤_, _<_, max};
+ghost use mathlib.Core.List.{List};
+ghost use Prim.Native.Nat.{ℕ, _≤_, _<_, max};
 ghost use lib.Dec.{T};
 ghost use Rattle.floats.specs.Unit.{inUnit};
 ghost use Rattle.resample.specs.Defs.{nextOf};
+ghost use Rattle.plan.specs.Source.{over};
+ghost use Rattle.turn.specs.Render.{renderOver};
 ghost use Rattle.turn.specs.Turn.{takesPart, with, freshened, beginOf, skipsConversion};
 ghost use Rattle.turn.specs.Turn.{speedOf, ratioOf, sourceOf, neededBy, previousOf, turnOf, told};
 
-// What a render gives to each voice: its samples, the renderer's rate, whether the revision is 8 or later, and sample memory's base and length.
+// What a render gives to each voice: its samples, the renderer's rate, and whether the revision is 8 or later. The ranges of sample
+// memory are lent beside it.
 pub struct Render {
     pub sample_count: u32,
     pub sample_rate: u32,
     pub buffers_v2: bool,
-    pub base: u64,
-    pub size: u64,
 }
 
 // A turn: the voice after it, and what its sound is made from. `fraction` is the voice's before the turn; the volume ramps from `from` to `to`.
@@ -99,7 +101,7 @@ pub fn ratio(v: Voice, rate: u32) -> f32
 
 // What a fetch takes from the voice and from the render.
 pub fn source_of(v: Voice, r: Render) -> Source
-    ensures { λ s. ⌜ s ≡ sourceOf v r ⌝ }
+    ensures { λ s. ⌜ ((numbers : List ℕ) → over s numbers ≡ sourceOf v (renderOver r numbers)) ⌝ }
 {
     Source {
         format: v.format,
@@ -107,8 +109,6 @@ pub fn source_of(v: Voice, r: Render) -> Source
         decoding: v.decoding,
         data_source: v.data_source,
         buffers_v2: r.buffers_v2,
-        base: r.base,
-        size: r.size,
     }
 }
 
@@ -142,22 +142,22 @@ fn finish(v: Voice, previous: f32, q: Queue, fraction: f32) -> Voice
 
 // The samples that the turn of a voice takes.
 pub fn samples_needed(v: Voice, r: Render) -> usize
-    ensures { λ n. ⌜ n ≡ neededBy v r ⌝ }
+    ensures { λ n. ⌜ ((numbers : List ℕ) → n ≡ neededBy v (renderOver r numbers)) ⌝ }
 {
     resample::needed(v.fraction, ratio(v, r.sample_rate), r.sample_count)
 }
 
 // The turn of a voice that is ready.
-pub fn plan_turn(v: Voice, r: Render) -> Turn
+pub fn plan_turn(v: Voice, r: Render, ranges: &[u64]) -> Turn
     requires { ⌜ v .index < 4 ⌝ }
     requires { ⌜ (1 ≤ v .channels) × (v .channels ≤ 6) ⌝ }
     requires { ⌜ r .«sample_count» ≤ 256 ⌝ }
     requires { ⌜ T (inUnit (v .fraction)) ⌝ }
-    ensures { λ t. ⌜ t ≡ told (turnOf v r) ⌝ }
+    ensures { λ t. ⌜ t ≡ told (turnOf v (renderOver r (now (ranges .entry)))) ⌝ }
 {
     let ratio = ratio(v, r.sample_rate);
     let needed = resample::needed(v.fraction, ratio, r.sample_count) as u32;
-    let plan = plan::plan_fetch(voice::queue_of(v), source_of(v, r), needed);
+    let plan = plan::plan_fetch(voice::queue_of(v), source_of(v, r), ranges, needed);
     let q = plan.queue;
     let fraction = next_fraction(v.fraction, ratio, r.sample_count);
     let voice = finish(v, previous_of(v), q, fraction);

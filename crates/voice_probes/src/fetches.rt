@@ -6,15 +6,14 @@ use crate::VoiceContext;
 use plan::Source;
 use voice::Voice;
 
-fn source_of(v: Voice, base: u64, size: u64, buffers_v2: bool) -> Source {
+// What a fetch takes from a voice.
+fn source_of(v: Voice, buffers_v2: bool) -> Source {
     Source {
         format: v.format,
         channels: v.channels,
         decoding: v.decoding,
         data_source: v.data_source,
         buffers_v2,
-        base,
-        size,
     }
 }
 
@@ -24,7 +23,7 @@ struct Moved {
     rounds: u32,
 }
 
-fn plan_voice(v: Voice, s: Source, count: u32) -> Moved {
+fn plan_voice(v: Voice, s: Source, ranges: &[u64], count: u32) -> Moved {
     if count > 65536 {
         return Moved {
             voice: v,
@@ -49,7 +48,7 @@ fn plan_voice(v: Voice, s: Source, count: u32) -> Moved {
             rounds: 255,
         };
     }
-    let p = plan::plan_fetch(voice::queue_of(v), s, count);
+    let p = plan::plan_fetch(voice::queue_of(v), s, ranges, count);
     let q = p.queue;
     let voice = voice::with_queue(v, q);
     Moved {
@@ -79,7 +78,8 @@ pub extern "C" fn probe_plan(
         return 255;
     }
     let v = voice_rows::load_voice(words, longs, floats);
-    let m = plan_voice(v, source_of(v, base, size, buffers_v2 != 0), count);
+    let ranges = [base, 0, size];
+    let m = plan_voice(v, source_of(v, buffers_v2 != 0), &ranges, count);
     let w = m.voice;
     voice_rows::store_voice(w, words, 0, longs, 0, floats, 0);
     m.rounds
@@ -116,12 +116,13 @@ pub extern "C" fn probe_fetch_row(
     }
     let v = voice_rows::load_voice(words, longs, floats);
     let sound = sound_rows::load_sound(contexts, history);
-    let s = source_of(v, base, memory.len() as u64, buffers_v2 != 0);
+    let s = source_of(v, buffers_v2 != 0);
+    let ranges = [base, 0, memory.len() as u64];
     let ctx = sound.adpcm;
     let kept = sound.history;
     let samples = kept.samples;
     let first = three_of(samples, c);
-    let x = fetch_once::fetch_row(voice::queue_of(v), s, memory, ctx, first, c, out);
+    let x = fetch_once::fetch_row(voice::queue_of(v), s, &ranges, memory, ctx, first, c, out);
     VoiceContext {
         pred_scale: x.pred_scale,
         history0: x.history0,

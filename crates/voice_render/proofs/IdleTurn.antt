@@ -6,7 +6,7 @@ use native.Mathlib.Omega.{arith}
 use lib.Ieee.{Float}
 use Rattle.params.specs.declared.params.Params.{Params}
 use Rattle.state.specs.State.{State}
-use Rattle.turn.specs.declared.Render.{Render}
+use Rattle.turn.specs.Render.{Render}
 use Rattle.state_voices.specs.StateVoices.{Idle}
 use Rattle.state_voices.proofs.IdleVoice.{idle-begun}
 use Rattle.voice_turn.specs.Played.{studio}

@@ -7,7 +7,7 @@ use native.Mathlib.Omega.{arith}
 use lib.Ieee.{Float}
 use Rattle.params.specs.declared.params.Params.{Params}
 use Rattle.state.specs.State.{State}
-use Rattle.turn.specs.declared.Render.{Render}
+use Rattle.turn.specs.Render.{Render}
 use Rattle.state_voices.specs.StateVoices.{voiceIn, begun, Playing, Playable}
 use Rattle.state_voices.specs.Keeps.{only-then}
 use Rattle.state_voices.specs.Begins.{begun-facts}

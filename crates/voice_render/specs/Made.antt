@@ -8,7 +8,7 @@ use lib.Ieee.{Float}
 use Rattle.params.specs.declared.params.Params.{Params}
 use Rattle.state.specs.State.{State}
 use Rattle.voice.specs.declared.ready.Prepared.{Prepared}
-use Rattle.turn.specs.declared.Render.{Render}
+use Rattle.turn.specs.Render.{Render}
 use Rattle.state_voices.specs.StateVoices.{begunOf, begun, Playable, Beginning}
 use Rattle.state_voices.specs.Begins.{Begins, begun-facts}
 use Rattle.voice_turn.specs.Played.{Studio, studio, played}

@@ -4,7 +4,7 @@ use Prim.Native.Nat.{ℕ, _≤_}
 use native.Mathlib.Omega.{arith}
 use Rattle.voice.specs.declared.Voice.{Voice}
 use Rattle.row_trips.specs.Trip.{Shaped}
-use Rattle.turn.specs.declared.Render.{Render}
+use Rattle.turn.specs.Render.{Render}
 use Rattle.turn.specs.Turn.{takesPart, beginOf, turnOf}
 use Rattle.turn.specs.Laws.{rounds-few}
 use Rattle.state_voices.specs.StateVoices.{begunVoice, Playing}

@@ -5,7 +5,7 @@ use Prim.Native.Nat.{ℕ}
 use Rattle.params.specs.declared.params.Params.{Params}
 use Rattle.state.specs.State.{State}
 use Rattle.voice.specs.declared.Voice.{Voice}
-use Rattle.turn.specs.declared.Render.{Render}
+use Rattle.turn.specs.Render.{Render}
 use Rattle.state_voices.specs.StateVoices.{begun}
 use Rattle.voice_turn.specs.Played.{Studio, studio, played}
 

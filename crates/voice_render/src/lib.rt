@@ -3,6 +3,7 @@ ghost use mathlib.Core.Path.{_≡_};
 ghost use Prim.Native.Nat.{ℕ, _+_, _<_};
 ghost use Rattle.state.specs.State.{stateOf};
 ghost use Rattle.state_voices.specs.StateVoices.{Playable};
+ghost use Rattle.turn.specs.Render.{renderOver};
 ghost use Rattle.voice_turn.specs.Played.{studio};
 ghost use Rattle.voice_turn.specs.Asks.{Renderable, Room};
 ghost use Rattle.voice_render.specs.RenderVoice.{renderVoice};
@@ -13,6 +14,7 @@ use turn::Render;
 pub fn render_voice(
     p: Params,
     r: Render,
+    ranges: &[u64],
     memory: &[u8],
     k: usize,
     words: &mut [u32],
@@ -24,8 +26,8 @@ pub fn render_voice(
     src: &mut [f32],
     out: &mut [f32],
 ) -> u32
-    requires { ⌜ Renderable p r (now memory) (stateOf (now words) (now longs) (now floats) (now contexts) (now history)) ⌝ ∗ ⌜ k < p .voices ⌝ ∗ ⌜ Playable p k (stateOf (now words) (now longs) (now floats) (now contexts) (now history)) ⌝ ∗ ⌜ Room p (now out) ⌝ }
-    ensures { λ rounds. ⌜ ((n : ℕ) → studio (stateOf (now (words .exit)) (now (longs .exit)) (now (floats .exit)) (now (contexts .exit)) (now (history .exit))) (now (buffers .exit)) (n + rounds) ≡ renderVoice p r (now (memory .entry)) k (studio (stateOf (now (words .entry)) (now (longs .entry)) (now (floats .entry)) (now (contexts .entry)) (now (history .entry))) (now (buffers .entry)) n)) ⌝ }
+    requires { ⌜ Renderable p (renderOver r (now ranges)) (now memory) (stateOf (now words) (now longs) (now floats) (now contexts) (now history)) ⌝ ∗ ⌜ k < p .voices ⌝ ∗ ⌜ Playable p k (stateOf (now words) (now longs) (now floats) (now contexts) (now history)) ⌝ ∗ ⌜ Room p (now out) ⌝ }
+    ensures { λ rounds. ⌜ ((n : ℕ) → studio (stateOf (now (words .exit)) (now (longs .exit)) (now (floats .exit)) (now (contexts .exit)) (now (history .exit))) (now (buffers .exit)) (n + rounds) ≡ renderVoice p (renderOver r (now (ranges .entry))) (now (memory .entry)) k (studio (stateOf (now (words .entry)) (now (longs .entry)) (now (floats .entry)) (now (contexts .entry)) (now (history .entry))) (now (buffers .entry)) n)) ⌝ }
 {
     if state_voices::idle(k, words) {
         return 0;
@@ -36,6 +38,7 @@ pub fn render_voice(
         return voice_turn::render_ready(
             p,
             r,
+            ranges,
             memory,
             k,
             v,

@@ -16,7 +16,8 @@ use Rattle.desk_rows.specs.DeskRows.{Mixes, Lists}
 use Rattle.voice.specs.declared.Voice.{Voice}
 use Rattle.voice_rows.specs.VoiceRow.{wordsOf, floatsOf}
 use Rattle.voice_sends.specs.Sending.{Ids}
-use Rattle.turn.specs.declared.Render.{Render}
+use Rattle.ranges.specs.Ascending.{Ascending}
+use Rattle.turn.specs.Render.{Render}
 use Rattle.turn.specs.declared.Turn.{Turn}
 use Rattle.turn.specs.Turn.{neededBy, turnOf, told}
 use Rattle.turn.specs.Laws.{needed-few}
@@ -30,7 +31,7 @@ pub record Renderable (p : Params) (r : Render) (m : List ℕ) (st : State) : Ty
   pub mixes : Mixes (mixesOf p) (mixWordsIn p (st .words))
   pub lists : Lists (p .splitters) (p .«splitter_destinations») (listWordsIn p (st .words))
   pub samples : r .«sample_count» ≡ p .«sample_count»
-  pub memory : r .size ≡ length m
+  pub memory : Ascending (length m) 0 (r .ranges)
 
 -- what a voice is heard in: a row for each of six channels
 pub record Room (p : Params) (out : List Float) : Type 0 where
@@ -44,7 +45,7 @@ pub record Sounding (t : Turn) (v : Voice) (r : Render) (m : List ℕ) (src out 
   pub few : v .channels ≤ 6
   pub fraction : T (inUnit (v .fraction))
   pub samples : r .«sample_count» ≤ 256
-  pub memory : r .size ≡ length m
+  pub memory : Ascending (length m) 0 (r .ranges)
   pub row : 3 + t .needed ≤ length src
   pub rows : 6 * r .«sample_count» ≤ length out
 

@@ -14,7 +14,8 @@ use Rattle.voice.specs.Voice.{queueOf}
 use Rattle.sound_rows.specs.SoundRow.{historyOf}
 use Rattle.row_trips.specs.Trip.{Shaped}
 use Rattle.plan.specs.Fits.{plan-made}
-use Rattle.turn.specs.declared.Render.{Render}
+use Rattle.ranges.specs.Ascending.{Ascending}
+use Rattle.turn.specs.Render.{Render}
 use Rattle.turn.specs.Turn.{sourceOf, neededBy, plannedBy, turnOf}
 use Rattle.playing.specs.Playing.{playedSound}
 use Rattle.playing.specs.Lengths.{length-history}
@@ -57,12 +58,12 @@ module _ {p : Params} {v : Voice} (q : Playing (p .voices) v) (out : List Float)
 
 -- ---- a voice that is ready
 
-module _ {p : Params} (r : Render) (m : List ℕ) {k : ℕ} {v : Voice} {st : State} (z : Sized p st) (h : k < p .voices) (q : Playing (p .voices) v) (size : r .size ≡ length m) where
+module _ {p : Params} (r : Render) (m : List ℕ) {k : ℕ} {v : Voice} {st : State} (z : Sized p st) (h : k < p .voices) (q : Playing (p .voices) v) (laid : Ascending (length m) 0 (r .ranges)) where
   -- the history that it keeps
   pub kept-long : length (historyOf (playedSound (turnMaterial r m k v st))) ≡ 18
   unfolding historyOf playedSound materialOf turnOf plannedBy
   kept-long =
-      length-history (turnMaterial r m k v st) (length-soundIn k (st .contexts) (st .history) (omega (arith, z .history))) (q .channels) size
+      length-history (turnMaterial r m k v st) (length-soundIn k (st .contexts) (st .history) (omega (arith, z .history))) (q .channels) laid
       (plan-made (queueOf v) (sourceOf v r) (neededBy v r) .fits)
 
   fetched-only : OnlyVoice p k st (fetched r m k v st)

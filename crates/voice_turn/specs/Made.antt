@@ -18,10 +18,11 @@ use Rattle.voice.specs.Voice.{queueOf}
 use Rattle.voice_rows.specs.VoiceRow.{wordsOf, longsOf, floatsOf}
 use Rattle.sound_rows.specs.SoundRow.{contextsOf, historyOf}
 use Rattle.voice_sends.specs.Sending.{rampedRows}
-use Rattle.plan.specs.declared.Source.{Source}
+use Rattle.plan.specs.Source.{Source}
 use Rattle.plan.specs.Rounds.{hasTable, planOf}
 use Rattle.sound.specs.Channel.{Ready}
-use Rattle.turn.specs.declared.Render.{Render}
+use Rattle.ranges.specs.Ascending.{Ascending}
+use Rattle.turn.specs.Render.{Render}
 use Rattle.turn.specs.declared.Turn.{Turn}
 use Rattle.turn.specs.Turn.{sourceOf, plannedBy, turnOf, told}
 use Rattle.turn.specs.Laws.{turn-table, needed-few}
@@ -72,7 +73,7 @@ module _ {t : Turn} {v : Voice} {r : Render} {m : List ℕ} {src out : List Floa
         index = subst (λ (x : Queue). x .index < 4) (sym eu) (q .index);
         some = subst (λ (x : Source). 1 ≤ x .channels) (sym es) (q .some);
         channels = subst (λ (x : Source). x .channels ≤ 6) (sym es) (q .few);
-        size = (λ i. es i .size) ∙ q .memory;
+        memory = subst (λ (x : Source). Ascending (length m) 0 (x .ranges)) (sym es) (q .memory);
       }
 
   pub table-told : t .plan .table ≡ hasTable s

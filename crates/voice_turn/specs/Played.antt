@@ -12,7 +12,7 @@ use Rattle.voice.specs.Voice.{hasDestination}
 use Rattle.voice_rows.specs.VoiceRow.{wordsOf, longsOf, floatsOf}
 use Rattle.sound_rows.specs.SoundRow.{contextsOf, historyOf}
 use Rattle.voice_sends.specs.Sending.{Sent, rampedRows}
-use Rattle.turn.specs.declared.Render.{Render}
+use Rattle.turn.specs.Render.{Render}
 use Rattle.turn.specs.Turn.{sourceOf, turnOf}
 use Rattle.playing.specs.Playing.{Material, playedSound}
 use Rattle.hearing.specs.Hearing.{soundIn, heardOut}

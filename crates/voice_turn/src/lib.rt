@@ -6,6 +6,7 @@ ghost use Prim.Native.Nat.{ℕ, _+_, _*_, _≤_};
 ghost use lib.ListN.{length, take};
 ghost use Rattle.rows.specs.Rows.{put};
 ghost use Rattle.state.specs.State.{stateOf};
+ghost use Rattle.turn.specs.Render.{renderOver};
 ghost use Rattle.turn.specs.Turn.{neededBy};
 ghost use Rattle.sound_rows.specs.SoundRow.{contextsOf, historyOf};
 ghost use Rattle.playing.specs.Playing.{playedSound};
@@ -24,6 +25,7 @@ fn hear_turn(
     t: Turn,
     v: Voice,
     r: Render,
+    ranges: &[u64],
     memory: &[u8],
     k: usize,
     contexts: &mut [u16],
@@ -31,15 +33,16 @@ fn hear_turn(
     src: &mut [f32],
     out: &mut [f32],
 )
-    requires { ⌜ Sounding t v r (now memory) (now src) (now out) ⌝ ∗ ⌜ SoundInside k (now contexts) (now history) ⌝ }
-    ensures { λ _. ⌜ now (contexts .exit) ≡ put (now (contexts .entry)) (k * 3) (contextsOf (playedSound (materialOf r (now (memory .entry)) v (soundIn k (now (contexts .entry)) (now (history .entry)))))) ⌝ }
-    ensures { λ _. ⌜ now (history .exit) ≡ put (now (history .entry)) (k * 18) (historyOf (playedSound (materialOf r (now (memory .entry)) v (soundIn k (now (contexts .entry)) (now (history .entry)))))) ⌝ }
-    ensures { λ _. ⌜ take (v .channels * r .«sample_count») (now (out .exit)) ≡ heardOut (materialOf r (now (memory .entry)) v (soundIn k (now (contexts .entry)) (now (history .entry)))) ⌝ }
+    requires { ⌜ Sounding t v (renderOver r (now ranges)) (now memory) (now src) (now out) ⌝ ∗ ⌜ SoundInside k (now contexts) (now history) ⌝ }
+    ensures { λ _. ⌜ now (contexts .exit) ≡ put (now (contexts .entry)) (k * 3) (contextsOf (playedSound (materialOf (renderOver r (now (ranges .entry))) (now (memory .entry)) v (soundIn k (now (contexts .entry)) (now (history .entry)))))) ⌝ }
+    ensures { λ _. ⌜ now (history .exit) ≡ put (now (history .entry)) (k * 18) (historyOf (playedSound (materialOf (renderOver r (now (ranges .entry))) (now (memory .entry)) v (soundIn k (now (contexts .entry)) (now (history .entry)))))) ⌝ }
+    ensures { λ _. ⌜ take (v .channels * r .«sample_count») (now (out .exit)) ≡ heardOut (materialOf (renderOver r (now (ranges .entry))) (now (memory .entry)) v (soundIn k (now (contexts .entry)) (now (history .entry)))) ⌝ }
 {
     let s = turn::source_of(v, r);
     hearing::hear(
         voice::queue_of(v),
         s,
+        ranges,
         t.plan.table,
         memory,
         t.ratio,
@@ -91,6 +94,7 @@ fn send_turn(
 fn turn_in(
     p: Params,
     r: Render,
+    ranges: &[u64],
     memory: &[u8],
     k: usize,
     v: Voice,
@@ -103,13 +107,13 @@ fn turn_in(
     src: &mut [f32],
     out: &mut [f32],
 ) -> u32
-    requires { ⌜ Rendering p r (now memory) k (stateOf (now words) (now longs) (now floats) (now contexts) (now history)) v (now out) ⌝ ∗ ⌜ 3 + neededBy v r ≤ length (now src) ⌝ }
-    ensures { λ rounds. ⌜ ((n : ℕ) → studio (stateOf (now (words .exit)) (now (longs .exit)) (now (floats .exit)) (now (contexts .exit)) (now (history .exit))) (now (buffers .exit)) (n + rounds) ≡ played p r (now (memory .entry)) k v (studio (stateOf (now (words .entry)) (now (longs .entry)) (now (floats .entry)) (now (contexts .entry)) (now (history .entry))) (now (buffers .entry)) n)) ⌝ }
+    requires { ⌜ Rendering p (renderOver r (now ranges)) (now memory) k (stateOf (now words) (now longs) (now floats) (now contexts) (now history)) v (now out) ⌝ ∗ ⌜ 3 + neededBy v (renderOver r (now ranges)) ≤ length (now src) ⌝ }
+    ensures { λ rounds. ⌜ ((n : ℕ) → studio (stateOf (now (words .exit)) (now (longs .exit)) (now (floats .exit)) (now (contexts .exit)) (now (history .exit))) (now (buffers .exit)) (n + rounds) ≡ played p (renderOver r (now (ranges .entry))) (now (memory .entry)) k v (studio (stateOf (now (words .entry)) (now (longs .entry)) (now (floats .entry)) (now (contexts .entry)) (now (history .entry))) (now (buffers .entry)) n)) ⌝ }
 {
-    let t = turn::plan_turn(v, r);
+    let t = turn::plan_turn(v, r, ranges);
     let voice = t.voice;
     state_voices::store_voice_at(k, voice, words, longs, floats);
-    hear_turn(t, v, r, memory, k, contexts, history, src, out);
+    hear_turn(t, v, r, ranges, memory, k, contexts, history, src, out);
     send_turn(p, v, t.from, t.to, out, words, floats, buffers);
     t.plan.rounds
 }
@@ -118,6 +122,7 @@ fn turn_in(
 fn turn_far(
     p: Params,
     r: Render,
+    ranges: &[u64],
     memory: &[u8],
     k: usize,
     v: Voice,
@@ -129,13 +134,14 @@ fn turn_far(
     buffers: &mut [f32],
     out: &mut [f32],
 ) -> u32
-    requires { ⌜ Rendering p r (now memory) k (stateOf (now words) (now longs) (now floats) (now contexts) (now history)) v (now out) ⌝ }
-    ensures { λ rounds. ⌜ ((n : ℕ) → studio (stateOf (now (words .exit)) (now (longs .exit)) (now (floats .exit)) (now (contexts .exit)) (now (history .exit))) (now (buffers .exit)) (n + rounds) ≡ played p r (now (memory .entry)) k v (studio (stateOf (now (words .entry)) (now (longs .entry)) (now (floats .entry)) (now (contexts .entry)) (now (history .entry))) (now (buffers .entry)) n)) ⌝ }
+    requires { ⌜ Rendering p (renderOver r (now ranges)) (now memory) k (stateOf (now words) (now longs) (now floats) (now contexts) (now history)) v (now out) ⌝ }
+    ensures { λ rounds. ⌜ ((n : ℕ) → studio (stateOf (now (words .exit)) (now (longs .exit)) (now (floats .exit)) (now (contexts .exit)) (now (history .exit))) (now (buffers .exit)) (n + rounds) ≡ played p (renderOver r (now (ranges .entry))) (now (memory .entry)) k v (studio (stateOf (now (words .entry)) (now (longs .entry)) (now (floats .entry)) (now (contexts .entry)) (now (history .entry))) (now (buffers .entry)) n)) ⌝ }
 {
     let mut row = [0.0f32; 4100];
     turn_in(
         p,
         r,
+        ranges,
         memory,
         k,
         v,
@@ -169,6 +175,7 @@ fn enough(row: u32, places: usize, needed: usize) -> bool
 pub fn render_ready(
     p: Params,
     r: Render,
+    ranges: &[u64],
     memory: &[u8],
     k: usize,
     v: Voice,
@@ -182,14 +189,15 @@ pub fn render_ready(
     src: &mut [f32],
     out: &mut [f32],
 ) -> u32
-    requires { ⌜ Rendering p r (now memory) k (stateOf (now words) (now longs) (now floats) (now contexts) (now history)) v (now out) ⌝ }
-    ensures { λ rounds. ⌜ ((n : ℕ) → studio (stateOf (now (words .exit)) (now (longs .exit)) (now (floats .exit)) (now (contexts .exit)) (now (history .exit))) (now (buffers .exit)) (n + rounds) ≡ played p r (now (memory .entry)) k v (studio (stateOf (now (words .entry)) (now (longs .entry)) (now (floats .entry)) (now (contexts .entry)) (now (history .entry))) (now (buffers .entry)) n)) ⌝ }
+    requires { ⌜ Rendering p (renderOver r (now ranges)) (now memory) k (stateOf (now words) (now longs) (now floats) (now contexts) (now history)) v (now out) ⌝ }
+    ensures { λ rounds. ⌜ ((n : ℕ) → studio (stateOf (now (words .exit)) (now (longs .exit)) (now (floats .exit)) (now (contexts .exit)) (now (history .exit))) (now (buffers .exit)) (n + rounds) ≡ played p (renderOver r (now (ranges .entry))) (now (memory .entry)) k v (studio (stateOf (now (words .entry)) (now (longs .entry)) (now (floats .entry)) (now (contexts .entry)) (now (history .entry))) (now (buffers .entry)) n)) ⌝ }
 {
     if enough(row, src.len(), turn::samples_needed(v, r)) {
         if row == 0 {
             return turn_in(
                 p,
                 r,
+                ranges,
                 memory,
                 k,
                 v,
@@ -206,6 +214,7 @@ pub fn render_ready(
         return turn_far(
             p,
             r,
+            ranges,
             memory,
             k,
             v,
@@ -221,6 +230,7 @@ pub fn render_ready(
     render_ready(
         p,
         r,
+        ranges,
         memory,
         k,
         v,

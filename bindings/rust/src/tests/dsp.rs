@@ -1,5 +1,5 @@
 //! DSP files.
-use super::title::{ONE_VOICE, put, title};
+use super::title::{ONE_VOICE, put, render, title};
 use crate::{AdpcmContext, DspHeader, Parameters, Refusal, Renderer, decode_adpcm, read_dsp, sys, write_dsp};
 use alloc::vec;
 use alloc::vec::Vec;
@@ -102,7 +102,7 @@ fn a_looped_file_plays() {
     played.extend((0..478).map(|k| samples[if k < 80 { k } else { 45 + (k - 80) % 35 }] / 32768.0));
     for expected in played.chunks(240) {
         let mut frames = [0.0; 480];
-        renderer.render(base.into(), &memory, &mut frames).unwrap();
+        render(&mut renderer, base.into(), &memory, &mut frames).unwrap();
         assert!(frames.chunks(2).zip(expected).all(|(frame, &x)| frame == [x, x]), "{frames:?} and {expected:?}");
     }
 }

@@ -7,7 +7,7 @@ use alloc::vec::Vec;
 #[test]
 fn replies_of_every_length() {
     let mut r = Renderer::open(&MOST).unwrap();
-    assert_eq!(r.render(0, &[], &mut [0.0; 512]), Ok(0));
+    assert_eq!(r.render(&[], &[], &mut [0.0; 512]), Ok(0));
     // The effects share what is expected beyond the rest, 64 equal parts of it.
     for (expected, size) in [(0, 6672), (6672, 6672), (6735, 6672), (6736, 6736), (6800, 6800), (6863, 6800)] {
         assert_eq!(r.reply_length(expected), Ok(size));

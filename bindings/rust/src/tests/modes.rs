@@ -1,5 +1,5 @@
 //! The floating-point mode around a call.
-use super::title::{ONE_VOICE, held, title};
+use super::title::{ONE_VOICE, held, render, title};
 use crate::{Renderer, mode, sys};
 use alloc::vec::Vec;
 
@@ -31,12 +31,12 @@ fn in_mode(mxcsr: u32, r: &mut Renderer, render: fn(&mut Renderer, &mut [f32; 48
 }
 
 fn by_crate(r: &mut Renderer, frames: &mut [f32; 480]) {
-    let _ = r.render(0x10000, &[0x33, 0x73], frames);
+    let _ = render(r, 0x10000, &[0x33, 0x73], frames);
 }
 
 /// The library's function as it is, which leaves the mode alone.
 fn by_library(r: &mut Renderer, frames: &mut [f32; 480]) {
-    let memory = [0x33, 0x73];
+    let (range, memory) = ([0x10000, 0, 2], [0x33, 0x73]);
     // SAFETY: each pointer and count are those of one slice or array; those that are written are borrowed here alone.
     unsafe {
         sys::jeqlluna_render(
@@ -50,7 +50,8 @@ fn by_library(r: &mut Renderer, frames: &mut [f32; 480]) {
             r.contexts.len(),
             r.history.as_mut_ptr(),
             r.history.len(),
-            0x10000,
+            range.as_ptr(),
+            range.len(),
             memory.as_ptr(),
             2,
             frames.as_mut_ptr(),

@@ -1,5 +1,5 @@
 //! Positions: what is told, and that asking changes nothing.
-use super::title::{MOST, ONE_VOICE, held, put, title};
+use super::title::{MOST, ONE_VOICE, held, put, render, title};
 use crate::positions::{CONSUMED, HEADER, LONGEST, PLAYED, POOLS_SIZE, VOICE, VOICES_SIZE};
 use crate::{Parameters, Position, Refusal, Renderer, revision};
 use alloc::vec;
@@ -35,7 +35,7 @@ fn clips(new: bool, samples: &[u32]) -> Vec<u8> {
 /// The bits of a render's frames.
 fn frames(r: &mut Renderer) -> Vec<u32> {
     let mut frames = [0.25; 512];
-    r.render(BASE.into(), &memory(), &mut frames).unwrap();
+    render(r, BASE.into(), &memory(), &mut frames).unwrap();
     frames.iter().map(|x| x.to_bits()).collect()
 }
 

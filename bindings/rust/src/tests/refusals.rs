@@ -1,5 +1,5 @@
 //! Each refusal, and that it changes nothing.
-use super::title::{EXAMPLE, MOST, ONE_VOICE, held};
+use super::title::{EXAMPLE, MOST, ONE_VOICE, held, render};
 use crate::{Parameters, Refusal, Renderer, sys};
 use alloc::vec;
 
@@ -34,6 +34,8 @@ fn opening_is_refused() {
 fn state_is_refused() {
     // One element too many in each slice by turns is refused by 3, and nothing changes; no renderer at all is refused by 4.
     let p = Parameters { voices: 1, ..EXAMPLE }.to_bytes();
+    // What 13, 5 and 7 would refuse of a render.
+    let far = [u64::MAX; 51];
     // SAFETY: the pointer and the count are those of one array.
     let n = unsafe { sys::jeqlluna_lengths(p.as_ptr(), p.len()) };
     for k in 0..6 {
@@ -50,7 +52,7 @@ fn state_is_refused() {
             (
                 sys::jeqlluna_mix_order(w, wn, l, ln, f, fs, c, cn, h, hn),
                 sys::jeqlluna_update(w, wn, l, ln, f, fs, c, cn, h, hn, 400, input, 0, reply_at, 400),
-                sys::jeqlluna_render(w, wn, l, ln, f, fs, c, cn, h, hn, 0, input, 0, frames_at, 4),
+                sys::jeqlluna_render(w, wn, l, ln, f, fs, c, cn, h, hn, far.as_ptr(), 51, input, 0, frames_at, 3),
                 sys::jeqlluna_open(input, p.len(), w, wn, l, ln, f, fs, c, cn, h, hn),
             )
         };
@@ -69,19 +71,19 @@ fn state_is_refused() {
 #[test]
 fn calls_are_refused_and_change_nothing() {
     let mut r = Renderer::open(&EXAMPLE).unwrap();
-    r.render(0, &[], &mut [0.0; 4]).unwrap();
+    r.render(&[], &[], &mut [0.0; 4]).unwrap();
     let before = held(&r);
     let mut frames = [0.5; 3];
     let far = (1 << 63) - 8;
-    assert_eq!(r.render(far, &[0; 9], &mut frames), Err(Refusal::Memory));
-    assert_eq!(r.render(u64::MAX, &[0; 9], &mut frames), Err(Refusal::Memory));
-    assert_eq!(r.render(far, &[0; 8], &mut frames), Err(Refusal::Frames));
+    assert_eq!(render(&mut r, far, &[0; 9], &mut frames), Err(Refusal::Memory));
+    assert_eq!(render(&mut r, u64::MAX, &[0; 9], &mut frames), Err(Refusal::Memory));
+    assert_eq!(render(&mut r, far, &[0; 8], &mut frames), Err(Refusal::Frames));
     assert_eq!(frames, [0.5; 3]);
     let mut reply = [0xa5; 271];
     assert_eq!(r.update_into(272, &[1; 100], &mut reply), Err(Refusal::Reply));
     assert_eq!(reply, [0xa5; 271]);
     assert_eq!(held(&r), before);
-    assert_eq!(r.render(far, &[0; 8], &mut [0.0; 4]), Ok(0));
+    assert_eq!(render(&mut r, far, &[0; 8], &mut [0.0; 4]), Ok(0));
     assert_ne!(held(&r), before);
 }
 

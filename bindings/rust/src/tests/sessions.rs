@@ -1,12 +1,12 @@
 //! Whole sessions through the crate.
-use super::title::{EXAMPLE, ONE_VOICE, held, put, title};
+use super::title::{EXAMPLE, ONE_VOICE, held, put, render, title};
 use crate::{Parameters, Renderer};
 
 #[test]
 fn worked_example() {
     let mut r = Renderer::open(&EXAMPLE).unwrap();
     let mut frames = [0.5; 5];
-    assert_eq!(r.render(0x10000, &[], &mut frames), Ok(0));
+    assert_eq!(r.render(&[], &[], &mut frames), Ok(0));
     assert_eq!(frames.map(f32::to_bits), [0, 0, 0, 0, 0.5f32.to_bits()]);
     let reply = r.update(272, &[], 272).unwrap();
     let mut words = [0u32; 68];
@@ -22,7 +22,7 @@ fn a_voice_plays() {
     let mut r = Renderer::open(&ONE_VOICE).unwrap();
     r.update(0, &title(1.0, true), 4096).unwrap();
     let mut frames = [0.25; 480];
-    assert_eq!(r.render(0x10000, &[0x00, 0x40], &mut frames), Ok(64));
+    assert_eq!(render(&mut r, 0x10000, &[0x00, 0x40], &mut frames), Ok(64));
     for (k, frame) in frames.chunks(2).enumerate() {
         assert_eq!(frame, if (2..66).contains(&k) { [0.5; 2] } else { [0.0; 2] }, "frame {k}");
     }
@@ -42,7 +42,7 @@ fn a_voice_is_slowed() {
         put(&mut input, PITCH, pitch.to_bits());
         r.update(0, &input, 4096).unwrap();
         let mut frames = [0.25; 6];
-        assert_eq!(r.render(0x10000, &[100, 0], &mut frames), Ok(rounds), "pitch {pitch}");
+        assert_eq!(render(&mut r, 0x10000, &[100, 0], &mut frames), Ok(rounds), "pitch {pitch}");
         assert_eq!(frames.map(|x| x * 32768.0), outputs.map(|x| [x; 2]).as_flattened(), "pitch {pitch}");
         assert_eq!(r.positions().unwrap()[0].played, 1, "pitch {pitch}");
     }
@@ -53,8 +53,8 @@ fn a_clone_goes_on_by_itself() {
     let mut a = Renderer::open(&ONE_VOICE).unwrap();
     a.update(0, &title(1.0, true), 4096).unwrap();
     let mut b = a.clone();
-    assert_eq!(a.render(0x10000, &[0x00, 0x40], &mut [0.0; 480]), Ok(64));
+    assert_eq!(render(&mut a, 0x10000, &[0x00, 0x40], &mut [0.0; 480]), Ok(64));
     assert_ne!(held(&a), held(&b));
-    assert_eq!(b.render(0x10000, &[0x00, 0x40], &mut [0.0; 480]), Ok(64));
+    assert_eq!(render(&mut b, 0x10000, &[0x00, 0x40], &mut [0.0; 480]), Ok(64));
     assert_eq!(held(&a), held(&b));
 }

@@ -1,5 +1,5 @@
 //! Titles as bytes, for the tests.
-use crate::{Parameters, Renderer, revision};
+use crate::{Parameters, Range, Refusal, Renderer, revision};
 use alloc::vec;
 use alloc::vec::Vec;
 
@@ -40,6 +40,11 @@ pub type Held = (Vec<u32>, Vec<u64>, Vec<u32>, Vec<u16>, Vec<u32>);
 pub fn held(r: &Renderer) -> Held {
     let bits = |v: &[f32]| v.iter().map(|x| x.to_bits()).collect();
     (r.words.clone(), r.longs.clone(), bits(&r.floats), r.contexts.clone(), bits(&r.history))
+}
+
+/// A render with all of a slice as sample memory, from an address on.
+pub fn render(r: &mut Renderer, base: u64, memory: &[u8], frames: &mut [f32]) -> Result<u32, Refusal> {
+    r.render(&[Range::whole(base, memory)], memory, frames)
 }
 
 pub fn put(d: &mut [u8], at: usize, value: u32) {

@@ -1,70 +1,55 @@
--- `fetch_once::fetch_row` meets what a fetch requires by its own tests: the plan is of as many samples as the row has room for. Assumes nothing.
+-- `fetch_once::fetch_row` meets what a fetch requires by its own tests: the plan is of as many samples as the row has room for.
+-- Assumes nothing.
+use mathlib.Core.Path.{sym, _∙_}
 use native.Mathlib.Omega.{arith}
 use borrow.Author.Needs.{needs}
+use borrow.Author.Tests.{not-false}
+use Rattle.ranges.proofs.Questions.{laid-facts}
 use Rattle.fetch_once.proofs.fetch_row.Statement.{statement}
 use Rattle.fetch_once.proofs.fetch_row.Tie as tie
 
-returns : tie.Need-returns
-returns c = search needs
-
-returns-2 : tie.Need-returns-2
-returns-2 c = search needs
-
-returns-3 : tie.Need-returns-3
-returns-3 c = search needs
-
-returns-4 : tie.Need-returns-4
-returns-4 c = search needs
-
-returns-5 : tie.Need-returns-5
-returns-5 c = search needs
-
-returns-6 : tie.Need-returns-6
-returns-6 c = search needs
-
-sub-count : tie.Need-sub-count
-sub-count c = search needs
-
-cast-count : tie.Need-cast-count
-cast-count c = search needs
-
-plan-fetch-requires : tie.Need-plan-fetch-requires
-plan-fetch-requires c κs = search needs
-
 coefficients-requires : tie.Need-coefficients-requires
-coefficients-requires c κs = search needs
+coefficients-requires c κs =
+    let five = c .before in
+    let thirteen = five .before .before in
+    laid-facts _ _ (sym (thirteen .before .laid .ensures) ∙ not-false _ (thirteen .if7 .left))
+    (sym (five .before .near .ensures) ∙ not-false _ (five .if8 .left))
 
 fetch-channel-requires : tie.Need-fetch-channel-requires
 fetch-channel-requires c κs =
-    record {
-      history = omega arith;
-      long = omega arith;
-      index = omega arith;
-      some = omega arith;
-      channels = omega arith;
-      size = omega arith;
-    }
-
-same-length : tie.Need-same-length
-same-length c = search needs
-
-returns-7 : tie.Need-returns-7
-returns-7 c = search needs
+    let five = c .before .before .before .before in
+    let thirteen = five .before .before in
+    let tests = thirteen .before .before .before .before .before .before .before .before .before in (
+      record {
+        history = omega (arith, tests .before .before .if1 .left);
+        long = omega (arith, tests .before .if2 .left);
+        index = omega arith;
+        some = omega arith;
+        channels = omega arith;
+        memory = laid-facts _ _ (sym (thirteen .before .laid .ensures) ∙ not-false _ (thirteen .if7 .left))
+            (sym (five .before .near .ensures) ∙ not-false _ (five .if8 .left));
+      },
+      omega arith,
+    )
 
 pub fetch-row-spec : {M : Type 1} → statement M
 fetch-row-spec =
     tie.close
     (tie.spec
-    returns
-    returns-2
-    returns-3
-    returns-4
-    returns-5
-    returns-6
-    sub-count
-    cast-count
-    plan-fetch-requires
+    (λ c. search needs)
+    (λ c. search needs)
+    (λ c. search needs)
+    (λ c. search needs)
+    (λ c. search needs)
+    (λ c. search needs)
+    (λ c κs. search needs)
+    (λ c. search needs)
+    (λ c κs. search needs)
+    (λ c. search needs)
+    (λ c. search needs)
+    (λ c. search needs)
+    (λ c κs. search needs)
     coefficients-requires
     fetch-channel-requires
-    same-length
-    returns-7)
+    (λ c. search needs)
+    (λ c. search needs))

@@ -5,6 +5,7 @@ use mathlib.Core.Path.{_∙_}
 use Rattle.rows.specs.Rows.{put}
 use Rattle.voice.specs.declared.sound.Sound.{Sound}
 use Rattle.sound_rows.specs.SoundRow.{contextsOf, historyOf}
+use Rattle.plan.specs.Source.{over}
 use Rattle.playing.specs.Playing.{Material, material, playedSound}
 use Rattle.hearing.specs.Hearing.{heardOut}
 use borrow.Author.Needs.{needs}
@@ -16,7 +17,7 @@ abbrev loaded : tie.After-play → tie.After-sound-at
 loaded c = c .before .before .before
 
 abbrev start : tie.After-sound-at → tie.Start
-start c = c .before .before .before .before .before .before .before .before
+start c = c .before .before .before .before .before .before .before .before .before
 
 play-requires : tie.Need-play-requires
 play-requires c κs =
@@ -32,7 +33,8 @@ store-sound-requires c κs =
 -- what is played of a sound, with the rest as it is
 abbrev from : tie.Start → Sound → Material
 from s sound =
-    material (s .args .q) (s .args .s) (s .args .memory .now) (s .args .needed) sound (s .args .ratio) (s .args .fraction) (s .args .n)
+    let a = s .args in
+    material (a .q) (over (a .s) (a .ranges .now)) (a .memory .now) (a .needed) sound (a .ratio) (a .fraction) (a .n)
 
 returns : tie.Need-returns
 returns c =

@@ -5,6 +5,7 @@ use native.Mathlib.Omega.{arith}
 use mathlib.Core.Path.{_≡_, sym, _∙_}
 use lib.ListN.{length, take}
 use lib.Seq.{length-take-le}
+use Rattle.plan.specs.Source.{over}
 use Rattle.playing.specs.Playing.{Material, material, playedSound, playedOut}
 use Rattle.hearing.specs.Laws.{played-front}
 use borrow.Author.Needs.{needs}
@@ -23,31 +24,32 @@ few : (s : tie.Start) → s .args .s .channels * s .args .n ≤ 1536
 few s = mul-le-mul (s .pre .0 .channels) (s .pre .1 .1 .1 .0)
 
 mul-rows : tie.Need-mul-rows
-mul-rows c = omega (arith, few (c .before .before .before .before))
+mul-rows c = omega (arith, few (c .before .before .before .before .before))
 
 cast-rows : tie.Need-cast-rows
-cast-rows c = omega (arith, few (c .before .before .before .before))
+cast-rows c = omega (arith, few (c .before .before .before .before .before))
 
 slice-aggregate-play-channels : tie.Need-slice-aggregate-play-channels
-slice-aggregate-play-channels c = sym (row-long (c .before .before .before .before .before))
+slice-aggregate-play-channels c = sym (row-long (c .before .before .before .before .before .before))
 
 slice-aggregate-play-channels-2 : tie.Need-slice-aggregate-play-channels-2
-slice-aggregate-play-channels-2 c = sym (rows-long (c .before .before .before .before .before .before))
+slice-aggregate-play-channels-2 c = sym (rows-long (c .before .before .before .before .before .before .before))
 
 play-channels-requires : tie.Need-play-channels-requires
 play-channels-requires c κs =
-    let s = c .before .before .before .before .before .before in
+    let s = c .before .before .before .before .before .before .before in
     (s .pre .0, (s .pre .1 .1 .0, (omega (arith, rows-long s), s .pre .1 .1 .1 .0)))
 
 -- what the sound is made from, if `needed` samples are
 abbrev from : tie.Start → ℕ → Material
 from s needed =
-    material (s .args .q) (s .args .s) (s .args .memory .now) needed (s .args .sound) (s .args .ratio) (s .args .fraction) (s .args .n)
+    let a = s .args in
+    material (a .q) (over (a .s) (a .ranges .now)) (a .memory .now) needed (a .sound) (a .ratio) (a .fraction) (a .n)
 
 returns : tie.Need-returns
 returns c =
     let p = c .before .before .before .before in
-    let s = p .before .before .before .before .before .before .before in
+    let s = p .before .before .before .before .before .before .before .before in
     let a = s .args in
     let e : length (take (3 + a .needed) (a .src .now)) - 3 ≡ a .needed = omega (arith, row-long s) in (
       p .play-channels .ensures .0 ∙ (λ i. playedSound (from s (e i))),

@@ -3,6 +3,7 @@ use Prim.Native.Nat.{_-_}
 use native.Mathlib.Omega.{arith}
 use mathlib.Core.Path.{_≡_}
 use lib.ListN.{length}
+use Rattle.plan.specs.Source.{over}
 use Rattle.playing.specs.Playing.{material}
 use Rattle.playing.specs.Channels.{table-made, kept-made, heard-made}
 use borrow.Author.Needs.{needs}
@@ -11,11 +12,11 @@ use Rattle.playing.proofs.play_channel.Tie as tie
 
 -- where the function begins
 abbrev start : tie.After-fetch-channel → tie.Start
-start c = c .before .before .before .before .before .before .before .before
+start c = c .before .before .before .before .before .before .before .before .before
 
 -- the fetch keeps the row's length
-same : (c : tie.After-fetch-channel) → length (c .fetch-channel .last .1 .1 .1 .1 .1 .1 .1 .0) ≡ length (start c .args .src .now)
-same c = c .fetch-channel .kept .1 .1 .1 .1 .1 .1 .1 .0
+same : (c : tie.After-fetch-channel) → length (c .fetch-channel .last .1 .1 .1 .1 .1 .1 .1 .1 .0) ≡ length (start c .args .src .now)
+same c = c .fetch-channel .kept .1 .1 .1 .1 .1 .1 .1 .1 .0
 
 three-of-requires : tie.Need-three-of-requires
 three-of-requires c κs = search needs
@@ -29,7 +30,8 @@ hear-requires c κs = search needs
 with-tail-requires : tie.Need-with-tail-requires
 with-tail-requires c κs =
     let p = c .before .before .before .before .before .before .before .before .before in
-    (start p .pre .1 .1 .0, omega (arith, same p, start p .pre .0 .history))
+    let s = start p in
+    (omega (arith, s .pre .1 .1 .0, s .pre .0 .channels), omega (arith, same p, s .pre .0 .history))
 
 context-after-requires : tie.Need-context-after-requires
 context-after-requires c κs = search needs
@@ -46,8 +48,9 @@ returns c =
     let p = p7 .before .before .before .before .before in
     let s = start p in
     let a = s .args in
-    let w = material (a .q) (a .s) (a .memory .now) (length (a .src .now) - 3) (a .before) (a .ratio) (a .fraction) (a .n) in
-    let t = table-made (a .q) (a .s) (a .memory .now) (length (a .src .now) - 3) (s .pre .1 .0) in
+    let source = over (a .s) (a .ranges .now) in
+    let w = material (a .q) source (a .memory .now) (length (a .src .now) - 3) (a .before) (a .ratio) (a .fraction) (a .n) in
+    let t = table-made (a .q) source (a .memory .now) (length (a .src .now) - 3) (s .pre .1 .0) in
     let h = p .before .before .three-of .ensures in
     let f = p .fetch-channel .ensures in (
       kept-made w (a .c) t h f (a .kept) (λ i. same p i - 3) (c .before .before .with-tail .ensures) (c .context-after .ensures),

@@ -3,6 +3,7 @@ use Prim.Native.Nat.{ℕ, _-_}
 use native.Mathlib.Omega.{arith}
 use mathlib.Core.Path.{ap, _∙_}
 use lib.ListN.{length}
+use Rattle.plan.specs.Source.{over}
 use Rattle.sound.specs.Sound.{tableOf}
 use Rattle.playing.specs.Playing.{material}
 use Rattle.playing.specs.Channels.{ready-same, Sounding, sounding-none, sounding-room, sounding-more, sounding-heard, sounding-kept}
@@ -11,11 +12,11 @@ use Rattle.playing.proofs.play_channels.Statement.{statement}
 use Rattle.playing.proofs.play_channels.Tie as tie
 
 abbrev Inv-loop : tie.InvT-loop
-Inv-loop q s table memory sound ratio fraction n src₀ out₀ coefficients kept₀ c₀ src out kept c =
-    Sounding (material q s memory (length src₀ - 3) sound ratio fraction n) src₀ out₀ src out kept c
+Inv-loop q s ranges table memory sound ratio fraction n src₀ out₀ coefficients kept₀ c₀ src out kept c =
+    Sounding (material q (over s ranges) memory (length src₀ - 3) sound ratio fraction n) src₀ out₀ src out kept c
 
 abbrev μ-loop : tie.MeasureT-loop
-μ-loop q s table memory sound ratio fraction n src₀ out₀ coefficients kept₀ c₀ src out kept c = s .channels - c
+μ-loop q s ranges table memory sound ratio fraction n src₀ out₀ coefficients kept₀ c₀ src out kept c = s .channels - c
 
 coefficients-requires : tie.Need-coefficients-requires Inv-loop μ-loop
 coefficients-requires c κs = search needs
@@ -27,13 +28,13 @@ play-channel-requires : tie.Need-play-channel-requires Inv-loop μ-loop
 play-channel-requires c κs =
     let p3 = c .before .before .before in
     let p5 = p3 .before .before in
-    let s = p5 .before .before .before .before .before in
+    let s = p5 .before .before .before .before .before .before in
     let p = p5 .loop .inv in (
       ready-same (p .row) (s .pre .0),
       (
-        p5 .before .coefficients .ensures ∙ (λ i. tableOf (s .pre .1 .0 i) (s .args .s) (s .args .memory .now)),
+        p5 .before .coefficients .ensures ∙ (λ i. tableOf (s .pre .1 .0 i) (over (s .args .s) (s .args .ranges .now)) (s .args .memory .now)),
         (
-          omega (arith, p3 .if1 .taken, s .pre .0 .channels),
+          p3 .if1 .taken,
           s .pre .1 .1 .1,
           sounding-room p (p3 .if1 .taken) (s .pre .1 .1 .0),
         ),
@@ -51,12 +52,12 @@ loop-again c =
     let p4 = c .before .before .before .before in
     let p8 = p4 .before .before .before .before in
     let p10 = p8 .before .before in
-    let a = p10 .before .before .before .before .before .args in
+    let a = p10 .before .before .before .before .before .before .args in
     let p = p10 .loop .inv in
     sounding-more p (p8 .if1 .taken)
-    (ap (λ (l : ℕ). material (a .q) (a .s) (a .memory .now) (l - 3) (a .sound) (a .ratio) (a .fraction) (a .n)) (p .row))
+    (ap (λ (l : ℕ). material (a .q) (over (a .s) (a .ranges .now)) (a .memory .now) (l - 3) (a .sound) (a .ratio) (a .fraction) (a .n)) (p .row))
     (p4 .play-channel .ensures .0) (p4 .play-channel .ensures .1)
-    (p4 .play-channel .kept .1 .1 .1 .1 .1 .1 .1 .1 .1 .1 .0) (p4 .play-channel .kept .1 .1 .1 .1 .1 .1 .1 .1 .1 .1 .1 .0)
+    (p4 .play-channel .kept .1 .1 .1 .1 .1 .1 .1 .1 .1 .1 .1 .0) (p4 .play-channel .kept .1 .1 .1 .1 .1 .1 .1 .1 .1 .1 .1 .1 .0)
 
 same-length : tie.Need-same-length Inv-loop μ-loop
 same-length c = c .before .before .loop .inv .row
@@ -67,7 +68,7 @@ same-length-2 c = c .before .before .loop .inv .size
 returns : tie.Need-returns Inv-loop μ-loop
 returns c =
     let p = c .before .before .loop .inv in
-    let s = c .before .before .before .before .before .before .before in
+    let s = c .before .before .before .before .before .before .before .before in
     (sounding-kept p (c .if1 .left) (s .pre .0 .some), sounding-heard p (c .if1 .left))
 
 pub play-channels-spec : {M : Type 1} → statement M

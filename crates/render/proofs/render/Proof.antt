@@ -8,7 +8,7 @@ abbrev called : tie.After-slice-known12 → tie.After-render-from
 called c = c .before .before .before .before .before .before .before .before .before .before .before .before
 
 render-from-requires : tie.Need-render-from-requires
-render-from-requires c κs = c .before .before .before .before .before .before .before .before .before .before .before .before .before .pre
+render-from-requires c κs = c .before .before .before .before .before .before .before .before .before .before .before .before .before .before .pre
 
 pub render-spec : {M : Type 1} → statement M
 render-spec =

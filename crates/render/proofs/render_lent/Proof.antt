@@ -4,8 +4,10 @@ use native.Mathlib.Omega.{arith}
 use lib.ListN.{take}
 use lib.Seq.{length-take-le}
 use Rattle.state.specs.State.{State, stateOf}
-use Rattle.turn.specs.declared.Render.{Render}
-use Rattle.render.specs.Render.{Playing, renderedOn}
+use Rattle.ranges.specs.Ranges.{rangesOf}
+use Rattle.turn.specs.Render.{Render}
+use Rattle.render_turns.specs.Turns.{Playing}
+use Rattle.render.specs.Render.{renderedOn}
 use Rattle.render.specs.Rooms.{floatsFor}
 use Rattle.render.proofs.Fitting.{floats-upto, blank-rendered}
 use borrow.Author.Needs.{needs}
@@ -17,33 +19,33 @@ abbrev given : tie.Start → State
 given c = stateOf (c .args .words .now) (c .args .longs .now) (c .args .floats .now) (c .args .contexts .now) (c .args .history .now)
 
 mul-total : tie.Need-mul-total
-mul-total c = omega (arith, floats-upto (c .before .before .before .before .before .before .before .before .before .before .before .before .pre .0))
+mul-total c = omega (arith, floats-upto (c .before .before .before .before .before .before .before .before .before .before .before .before .before .pre .0))
 
 slice-relend-prefix-render-on : tie.Need-slice-relend-prefix-render-on
-slice-relend-prefix-render-on c = c .before .before .before .before .before .before .before .before .before .before .before .before .before .before .before .before .before .before .pre .1 .1 .0 .room
+slice-relend-prefix-render-on c = c .before .before .before .before .before .before .before .before .before .before .before .before .before .before .before .before .before .before .before .pre .1 .1 .0 .room
 
 slice-aggregate-render-on : tie.Need-slice-aggregate-render-on
 slice-aggregate-render-on c =
-    let start = c .before .before .before .before .before .before .before .before .before .before .before .before .before .before .before .before .before .before .before in
+    let start = c .before .before .before .before .before .before .before .before .before .before .before .before .before .before .before .before .before .before .before .before in
     sym (length-take-le (floatsFor (start .args .p)) (start .args .buffers .now) (start .pre .1 .1 .0 .room))
 
 render-on-requires : tie.Need-render-on-requires
 render-on-requires c κs =
     let made = c .before .before .before .before .before .before .before .before .before in
-    let start = made .before .before .before .before .before .before .before .before .before .before .before .before .before in
+    let start = made .before .before .before .before .before .before .before .before .before .before .before .before .before .before in
     let a = start .args in (
-      subst (λ (r : Render). Playing (a .p) r (a .memory .now) 0 (given start)) (sym (made .render-of .ensures)) (start .pre .0),
+      subst (λ (r : Render). Playing (a .p) r (a .memory .now) 0 (given start)) (sym (made .render-of .ensures (a .ranges .now))) (start .pre .0),
       (start .pre .1 .1 .1, start .pre .1 .0),
     )
 
 returns : tie.Need-returns
 returns c =
     let made = c .before .before .before .before .before .before .before .before .before .before .before .before .before .before .before .before .before .before .before .before .before .before .before .before .before .before .before .before in
-    let start = made .before .before .before .before .before .before .before .before .before .before .before .before .before in
+    let start = made .before .before .before .before .before .before .before .before .before .before .before .before .before .before in
     let a = start .args in
     c .before .before .before .before .before .before .before .before .before .before .before .before .before .before .before .before .before .before .render-on .ensures
-    ∙ (λ i. renderedOn (a .p) (made .render-of .ensures i) (a .memory .now) (given start) (take (floatsFor (a .p)) (a .buffers .now)) (a .frames .now))
-    ∙ blank-rendered (a .p) (a .base) (a .memory .now) (given start) (a .buffers .now) (a .frames .now) (start .pre .1 .1 .0)
+    ∙ (λ i. renderedOn (a .p) (made .render-of .ensures (a .ranges .now) i) (a .memory .now) (given start) (take (floatsFor (a .p)) (a .buffers .now)) (a .frames .now))
+    ∙ blank-rendered (a .p) (rangesOf (a .ranges .now)) (a .memory .now) (given start) (a .buffers .now) (a .frames .now) (start .pre .1 .1 .0)
 
 pub render-lent-spec : {M : Type 1} → statement M
 render-lent-spec =

@@ -2,13 +2,10 @@
 use mathlib.Core.Bool.{Bool}
 use mathlib.Core.Path.{sym, ap, _∙_}
 use borrow.Author.Needs.{needs}
-use Rattle.adpcm.specs.Context.{coefficientsOf}
+use Rattle.plan.specs.Source.{over}
 use Rattle.sound.specs.Sound.{tableOf}
 use Rattle.sound.proofs.coefficients.Statement.{statement}
 use Rattle.sound.proofs.coefficients.Tie as tie
-
-read-requires : tie.Need-read-requires
-read-requires c κs = search needs
 
 coefficients-requires : tie.Need-coefficients-requires
 coefficients-requires c κs = search needs
@@ -17,15 +14,13 @@ returns : tie.Need-returns
 unfolding tableOf
 returns c =
     let a = c .before .before .before .before .args in
-    c .coefficients .ensures
-    ∙ ap coefficientsOf (c .before .read .ensures)
-    ∙ sym (ap (λ (b : Bool). tableOf b (a .s) (a .memory .now)) (c .before .before .if1 .taken))
+    c .coefficients .ensures ∙ sym (ap (λ (b : Bool). tableOf b (over (a .s) (a .ranges .now)) (a .memory .now)) (c .before .if1 .taken))
 
 returns-2 : tie.Need-returns-2
 unfolding tableOf
 returns-2 c =
-    let a = c .before .before .args in
-    sym (ap (λ (b : Bool). tableOf b (a .s) (a .memory .now)) (c .if1 .left))
+    let a = c .before .before .before .args in
+    sym (ap (λ (b : Bool). tableOf b (over (a .s) (a .ranges .now)) (a .memory .now)) (c .if1 .left))
 
 pub coefficients-spec : {M : Type 1} → statement M
-coefficients-spec = tie.close (tie.spec read-requires coefficients-requires returns returns-2)
+coefficients-spec = tie.close (tie.spec coefficients-requires returns returns-2)

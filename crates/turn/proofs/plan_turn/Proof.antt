@@ -3,7 +3,8 @@ use native.Mathlib.Omega.{arith}
 use Prim.Native.Nat.{_<_, _≤_}
 use mathlib.Core.Path.{sym, subst}
 use Rattle.voice.specs.declared.queue.Queue.{Queue}
-use Rattle.plan.specs.declared.Source.{Source}
+use Rattle.plan.specs.Source.{Source}
+use Rattle.turn.specs.Render.{renderOver}
 use Rattle.turn.specs.Made.{needed-upto, turn-made}
 use borrow.Author.Needs.{needs}
 use Rattle.turn.proofs.plan_turn.Statement.{statement}
@@ -17,8 +18,9 @@ needed-requires c κs = search needs
 
 cast-needed : tie.Need-cast-needed
 cast-needed c =
-    let s = c .before .before in
-    omega (arith, needed-upto (s .args .v) (s .args .r) (c .before .ratio .ensures) (c .needed .ensures) (s .pre .1 .1 .1) (s .pre .1 .1 .0))
+    let s = c .before .before .before in
+    let r = renderOver (s .args .r) (s .args .ranges .now) in
+    omega (arith, needed-upto (s .args .v) r (c .before .ratio .ensures) (c .needed .ensures) (s .pre .1 .1 .1) (s .pre .1 .1 .0))
 
 queue-of-requires : tie.Need-queue-of-requires
 queue-of-requires c κs = search needs
@@ -28,11 +30,13 @@ source-of-requires c κs = search needs
 
 plan-fetch-requires : tie.Need-plan-fetch-requires
 plan-fetch-requires c κs =
-    let s = c .before .before .before .before in
-    let n = needed-upto (s .args .v) (s .args .r) (c .before .before .before .ratio .ensures) (c .before .before .needed .ensures) (s .pre .1 .1 .1) (s .pre .1 .1 .0) in (
+    let s = c .before .before .before .before .before in
+    let r = renderOver (s .args .r) (s .args .ranges .now) in
+    let n = needed-upto (s .args .v) r (c .before .before .before .ratio .ensures) (c .before .before .needed .ensures) (s .pre .1 .1 .1)
+    (s .pre .1 .1 .0) in (
       subst (λ (q : Queue). q .index < 4) (sym (c .before .queue-of .ensures)) (s .pre .0),
       (
-        subst (λ (t : Source). (0 < t .channels) × (t .channels ≤ 6)) (sym (c .source-of .ensures)) (s .pre .1 .0),
+        subst (λ (t : Source). (0 < t .channels) × (t .channels ≤ 6)) (sym (c .source-of .ensures (s .args .ranges .now))) (s .pre .1 .0),
         omega arith,
       ),
     )
@@ -50,9 +54,11 @@ returns : tie.Need-returns
 returns c =
     let p3 = c .before .before .before in
     let p6 = p3 .before .before .before in
-    let p9 = p6 .before .before .before in
-    turn-made (p9 .args .v) (p9 .args .r) (p6 .before .before .ratio .ensures) (p6 .before .needed .ensures) (p6 .queue-of .ensures) (p3 .before .before .source-of .ensures)
-    (p3 .before .plan-fetch .ensures) (c .before .before .next-fraction .ensures) (c .before .previous-of .ensures) (c .finish .ensures)
+    let a = p6 .before .before .before .before .args in
+    let r = renderOver (a .r) (a .ranges .now) in
+    turn-made (a .v) r (p6 .before .before .ratio .ensures) (p6 .before .needed .ensures) (p6 .queue-of .ensures)
+    (p3 .before .before .source-of .ensures (a .ranges .now)) (p3 .before .plan-fetch .ensures) (c .before .before .next-fraction .ensures)
+    (c .before .previous-of .ensures) (c .finish .ensures)
 
 pub plan-turn-spec : {M : Type 1} → statement M
 plan-turn-spec =

@@ -8,7 +8,7 @@ use Rattle.turn.proofs.samples_needed.Tie as tie
 
 returns : tie.Need-returns
 unfolding neededBy
-returns c =
+returns c numbers =
     let a = c .before .before .args in
     c .needed .ensures ∙ (λ i. neededOf (a .v .fraction) (c .before .ratio .ensures i) (a .r .«sample_count»))
 

@@ -1,5 +1,6 @@
 -- `voice_render::render_voice` meets its contract: a voice with nothing to do is left, another goes by whether it's ready. Assumes nothing.
 use Rattle.state.specs.State.{stateOf}
+use Rattle.turn.specs.Render.{renderOver}
 use Rattle.state_voices.specs.Rows.{position-inside}
 use Rattle.voice_render.specs.Made.{beginning-of, rendering-of, ready-made, unready-made}
 use borrow.Author.Needs.{needs}
@@ -9,7 +10,7 @@ use Rattle.voice_render.proofs.render_voice.Tie as tie
 
 -- what the function is handed, from where the test has answered
 abbrev start : tie.After-idle → tie.Start
-start c = c .before .before .before .before .before .before .before .before .before .before .before
+start c = c .before .before .before .before .before .before .before .before .before .before .before .before
 
 -- and from where the voice has begun
 abbrev begun-start : tie.After-begin-voice → tie.Start
@@ -17,7 +18,7 @@ begun-start c = start (c .before .before .before .before .before .before .before
 
 idle-requires : tie.Need-idle-requires
 idle-requires c κs =
-    let q = c .before .before .before .before .before .before .before .before .before .before .pre in
+    let q = c .before .before .before .before .before .before .before .before .before .before .before .pre in
     let at = position-inside (q .0 .allowed) (q .0 .sized) (q .1 .0) in
     (at .few, at .words)
 
@@ -52,14 +53,14 @@ returns-2 c =
     let begun = test .before .before .before .before .before .before .before .before .before .before .before in
     let a = begun-start begun .args in
     ready-made (a .p) (a .k) (stateOf (a .words .now) (a .longs .now) (a .floats .now) (a .contexts .now) (a .history .now))
-    (begun .begin-voice .ensures) (a .r) (a .memory .now) (a .buffers .now) _ (test .if2 .taken) (called .render-ready .ensures)
+    (begun .begin-voice .ensures) (renderOver (a .r) (a .ranges .now)) (a .memory .now) (a .buffers .now) _ (test .if2 .taken) (called .render-ready .ensures)
 
 returns-3 : tie.Need-returns-3
 returns-3 c =
     let begun = c .before .before .before .before .before .before .before .before .before .before .before in
     let a = begun-start begun .args in
     unready-made (a .p) (a .k) (stateOf (a .words .now) (a .longs .now) (a .floats .now) (a .contexts .now) (a .history .now))
-    (begun .begin-voice .ensures) (a .r) (a .memory .now) (a .buffers .now) (c .if2 .left)
+    (begun .begin-voice .ensures) (renderOver (a .r) (a .ranges .now)) (a .memory .now) (a .buffers .now) (c .if2 .left)
 
 pub render-voice-spec : {M : Type 1} → statement M
 render-voice-spec =

@@ -16,14 +16,14 @@ use Rattle.voice_turn.proofs.+render_ready.{statement}
 use Rattle.voice_turn.proofs.+render_ready.Tie.{close}
 
 -- the rows that are left
-abbrev μ-ready : Measures 9 kinds.ps ℕ
-μ-ready κs a = 1 - a .1 .1 .1 .1 .1 .0
+abbrev μ-ready : Measures 10 kinds.ps ℕ
+μ-ready κs a = 1 - a .1 .1 .1 .1 .1 .1 .0
 
-abbrev ready-at : ℕ → In 9 kinds.ps
-ready-at t = and 9 kinds.ps (is 9 kinds.ps μ-ready t) ready.Pre
+abbrev ready-at : ℕ → In 10 kinds.ps
+ready-at t = and 10 kinds.ps (is 10 kinds.ps μ-ready t) ready.Pre
 
-abbrev ready-below : ℕ → In 9 kinds.ps
-ready-below t = and 9 kinds.ps (falls 9 kinds.ps _<_ μ-ready t) ready.Pre
+abbrev ready-below : ℕ → In 10 kinds.ps
+ready-below t = and 10 kinds.ps (falls 10 kinds.ps _<_ μ-ready t) ready.Pre
 
 pub +render-ready-spec : {M : Type 1} → statement M
 +render-ready-spec =
@@ -34,13 +34,14 @@ pub +render-ready-spec : {M : Type 1} → statement M
     (ready-at t)
     ready.Post
     (λ c κs. search needs)
-    (λ c κs. rw (c .samples-needed .ensures) (needed-upto (c .before .before .before .before .before .before .before .before .before .before .pre .1)))
+    (λ c κs.
+    let start = c .before .before .before .before .before .before .before .before .before .before .before in
+    rw (c .samples-needed .ensures (start .args .ranges .now)) (needed-upto (start .pre .1)))
     (λ c κs.
     let asked = c .before .before .before .before .before .before .before .before .before .before in
-    let start = asked .before .before .before .before .before .before .before .before .before .before .before in
+    let start = asked .before .before .before .before .before .before .before .before .before .before .before .before in
     let room = asked .enough .ensures .0 (c .before .before .before .before .before .before .before .before .before .if1 .taken) (c .before .before .before .before .before .before .before .before .if2 .taken) in
-    (start .pre .1, omega (arith, asked .before .samples-needed .ensures, room)))
-    (λ c. c .before .before .before .before .before .before .before .before .before .before .before .before .before .before .before .before .turn-in .kept .1 .1 .1 .1 .1 .0)
+    (start .pre .1, omega (arith, asked .before .samples-needed .ensures (start .args .ranges .now), room)))
     (λ c. c .before .before .before .before .before .before .before .before .before .before .before .before .before .before .before .before .turn-in .kept .1 .1 .1 .1 .1 .1 .0)
     (λ c. c .before .before .before .before .before .before .before .before .before .before .before .before .before .before .before .before .turn-in .kept .1 .1 .1 .1 .1 .1 .1 .0)
     (λ c. c .before .before .before .before .before .before .before .before .before .before .before .before .before .before .before .before .turn-in .kept .1 .1 .1 .1 .1 .1 .1 .1 .0)
@@ -48,21 +49,21 @@ pub +render-ready-spec : {M : Type 1} → statement M
     (λ c. c .before .before .before .before .before .before .before .before .before .before .before .before .before .before .before .before .turn-in .kept .1 .1 .1 .1 .1 .1 .1 .1 .1 .1 .0)
     (λ c. c .before .before .before .before .before .before .before .before .before .before .before .before .before .before .before .before .turn-in .kept .1 .1 .1 .1 .1 .1 .1 .1 .1 .1 .1 .0)
     (λ c. c .before .before .before .before .before .before .before .before .before .before .before .before .before .before .before .before .turn-in .kept .1 .1 .1 .1 .1 .1 .1 .1 .1 .1 .1 .1 .0)
+    (λ c. c .before .before .before .before .before .before .before .before .before .before .before .before .before .before .before .before .turn-in .kept .1 .1 .1 .1 .1 .1 .1 .1 .1 .1 .1 .1 .1 .0)
     (λ c. c .before .before .before .before .before .before .before .before .before .before .before .before .before .before .before .before .turn-in .ensures)
-    (λ c κs. c .before .before .before .before .before .before .before .before .before .before .before .before .before .before .before .before .before .before .before .before .pre .1)
-    (λ c. c .before .before .before .before .before .before .before .before .before .before .before .before .before .before .turn-far .kept .1 .1 .1 .1 .1 .0)
+    (λ c κs. c .before .before .before .before .before .before .before .before .before .before .before .before .before .before .before .before .before .before .before .before .before .pre .1)
     (λ c. c .before .before .before .before .before .before .before .before .before .before .before .before .before .before .turn-far .kept .1 .1 .1 .1 .1 .1 .0)
     (λ c. c .before .before .before .before .before .before .before .before .before .before .before .before .before .before .turn-far .kept .1 .1 .1 .1 .1 .1 .1 .0)
     (λ c. c .before .before .before .before .before .before .before .before .before .before .before .before .before .before .turn-far .kept .1 .1 .1 .1 .1 .1 .1 .1 .0)
     (λ c. c .before .before .before .before .before .before .before .before .before .before .before .before .before .before .turn-far .kept .1 .1 .1 .1 .1 .1 .1 .1 .1 .0)
     (λ c. c .before .before .before .before .before .before .before .before .before .before .before .before .before .before .turn-far .kept .1 .1 .1 .1 .1 .1 .1 .1 .1 .1 .0)
     (λ c. c .before .before .before .before .before .before .before .before .before .before .before .before .before .before .turn-far .kept .1 .1 .1 .1 .1 .1 .1 .1 .1 .1 .1 .0)
+    (λ c. c .before .before .before .before .before .before .before .before .before .before .before .before .before .before .turn-far .kept .1 .1 .1 .1 .1 .1 .1 .1 .1 .1 .1 .1 .0)
     (λ c. c .before .before .before .before .before .before .before .before .before .before .before .before .before .before .turn-far .ensures)
     (λ c. omega (arith, c .before .enough .ensures .1 (c .if1 .left)))
     (λ c κs.
-    let start = c .before .before .before .before .before .before .before .before .before .before .before .before .before .before .before .before .before .before .before .before in
+    let start = c .before .before .before .before .before .before .before .before .before .before .before .before .before .before .before .before .before .before .before .before .before in
     (omega (arith, start .pre .0, c .before .before .before .before .before .before .before .before .before .enough .ensures .1 (c .before .before .before .before .before .before .before .before .if1 .left)), start .pre .1))
-    (λ c. c .before .before .before .before .before .before .before .before .before .before .before .before .before .before .before .before .render-ready .kept .1 .1 .1 .1 .1 .1 .0)
     (λ c. c .before .before .before .before .before .before .before .before .before .before .before .before .before .before .before .before .render-ready .kept .1 .1 .1 .1 .1 .1 .1 .0)
     (λ c. c .before .before .before .before .before .before .before .before .before .before .before .before .before .before .before .before .render-ready .kept .1 .1 .1 .1 .1 .1 .1 .1 .0)
     (λ c. c .before .before .before .before .before .before .before .before .before .before .before .before .before .before .before .before .render-ready .kept .1 .1 .1 .1 .1 .1 .1 .1 .1 .0)
@@ -70,4 +71,5 @@ pub +render-ready-spec : {M : Type 1} → statement M
     (λ c. c .before .before .before .before .before .before .before .before .before .before .before .before .before .before .before .before .render-ready .kept .1 .1 .1 .1 .1 .1 .1 .1 .1 .1 .1 .0)
     (λ c. c .before .before .before .before .before .before .before .before .before .before .before .before .before .before .before .before .render-ready .kept .1 .1 .1 .1 .1 .1 .1 .1 .1 .1 .1 .1 .0)
     (λ c. c .before .before .before .before .before .before .before .before .before .before .before .before .before .before .before .before .render-ready .kept .1 .1 .1 .1 .1 .1 .1 .1 .1 .1 .1 .1 .1 .0)
+    (λ c. c .before .before .before .before .before .before .before .before .before .before .before .before .before .before .before .before .render-ready .kept .1 .1 .1 .1 .1 .1 .1 .1 .1 .1 .1 .1 .1 .1 .0)
     (λ c. c .before .before .before .before .before .before .before .before .before .before .before .before .before .before .before .before .render-ready .ensures))

@@ -12,9 +12,9 @@ use Rattle.voice_turn.proofs.hear_turn.Tie as tie
 
 hear-requires : tie.Need-hear-requires
 hear-requires c κs =
-    let s = c .before .before .before .before .before .before .before .before .before .before .before in
+    let s = c .before .before .before .before .before .before .before .before .before .before .before .before in
     let q = s .pre .0 in
-    let e = c .before .before .before .before .before .source-of .ensures in
+    let e = c .before .before .before .before .before .source-of .ensures (s .args .ranges .now) in
     let u = c .before .before .before .before .queue-of .ensures in
     let i = s .pre .1 in (
       turn-ready q e u,
@@ -26,15 +26,15 @@ returns c =
     let heard = c .before .before .before .before .before .before .before .before in
     let taken = heard .before .before .before .before .before in
     let made = taken .before in
-    let s = made .before .before .before .before .before .before in
+    let s = made .before .before .before .before .before .before .before in
     let a = s .args in
-    let w = material-made (s .pre .0) (made .source-of .ensures) (taken .queue-of .ensures)
+    let w = material-made (s .pre .0) (made .source-of .ensures (a .ranges .now)) (taken .queue-of .ensures)
     (soundIn (a .k) (a .contexts .now) (a .history .now)) in
     let e = heard .hear .ensures in (
       e .0 ∙ (λ i. put (a .contexts .now) (a .k * 3) (contextsOf (playedSound (w i)))),
       (
         e .1 .0 ∙ (λ i. put (a .history .now) (a .k * 18) (historyOf (playedSound (w i)))),
-        heard-made (s .pre .0) (made .source-of .ensures) (taken .queue-of .ensures)
+        heard-made (s .pre .0) (made .source-of .ensures (a .ranges .now)) (taken .queue-of .ensures)
             (soundIn (a .k) (a .contexts .now) (a .history .now)) _ (e .1 .1),
       ),
     )

@@ -9,7 +9,7 @@ use Rattle.voice_turn.proofs.turn_far.Tie as tie
 
 turn-in-requires : tie.Need-turn-in-requires
 turn-in-requires c κs =
-    let start = c .before .before .before .before .before .before .before .before .before .before .before .before .before .before .before .before in
+    let start = c .before .before .before .before .before .before .before .before .before .before .before .before .before .before .before .before .before in
     (start .pre, omega (arith, needed-upto (start .pre), length-replicate 4100 (ofBits binary32 0)))
 
 pub turn-far-spec : {M : Type 1} → statement M

@@ -17,6 +17,9 @@ returns-3 c = ap renderTold (sym (c .enum-told2 .given .1))
 returns-4 : tie.Need-returns-4
 returns-4 c = ap renderTold (sym (c .enum-told3 .given .1))
 
+returns-5 : tie.Need-returns-5
+returns-5 c = ap renderTold (sym (c .enum-told4 .given .1))
+
 pub render-told-spec : {M : Type 1} → statement M
 render-told-spec =
     tie.close
@@ -25,7 +28,9 @@ render-told-spec =
     (λ c. search needs)
     (λ c. search needs)
     (λ c. search needs)
+    (λ c. search needs)
     returns
     returns-2
     returns-3
-    returns-4)
+    returns-4
+    returns-5)

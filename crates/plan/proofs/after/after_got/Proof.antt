@@ -24,7 +24,7 @@ returns c b e =
     let p4 = p3 .before in
     let p5 = p4 .before in
     let p6 = p5 .before in
-    got-made (queueAt b (p6 .args .p)) (p6 .args .s) (p6 .args .wb) (p6 .args .total) (p6 .args .got)
+    got-made (queueAt b (p6 .args .p)) (p6 .args .s .decoding) (p6 .args .s .«buffers_v2») (p6 .args .wb) (p6 .args .total) (p6 .args .got)
     (p5 .wrapping-add-u32 .ensures) (p4 .wrapping-add-u64 .ensures) (sym (p3 .span-over .ensures) ∙ c .before .before .if1 .taken)
     (c .before .if2 .taken) (c .after-loop .ensures b e) refl
 
@@ -37,7 +37,7 @@ returns-2 c b e =
     let p4 = p3 .before in
     let p5 = p4 .before in
     let p6 = p5 .before in
-    got-made (queueAt b (p6 .args .p)) (p6 .args .s) (p6 .args .wb) (p6 .args .total) (p6 .args .got)
+    got-made (queueAt b (p6 .args .p)) (p6 .args .s .decoding) (p6 .args .s .«buffers_v2») (p6 .args .wb) (p6 .args .total) (p6 .args .got)
     (p5 .wrapping-add-u32 .ensures) (p4 .wrapping-add-u64 .ensures) (sym (p3 .span-over .ensures) ∙ c .before .before .if1 .taken)
     (c .before .if2 .left) refl (c .after-missing .ensures b e)
 
@@ -45,7 +45,7 @@ returns-3 : tie.Need-returns-3
 returns-3 c b e =
     let p3 = c .before .before .before in
     let p4 = p3 .before in
-    got-made (queueAt b (p4 .args .p)) (p4 .args .s) (p4 .args .wb) (p4 .args .total) (p4 .args .got)
+    got-made (queueAt b (p4 .args .p)) (p4 .args .s .decoding) (p4 .args .s .«buffers_v2») (p4 .args .wb) (p4 .args .total) (p4 .args .got)
     (p3 .wrapping-add-u32 .ensures) (c .before .before .wrapping-add-u64 .ensures)
     (sym (c .before .span-over .ensures) ∙ c .if1 .left) refl refl refl
 

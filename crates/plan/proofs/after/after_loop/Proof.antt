@@ -23,7 +23,7 @@ returns c b e =
     let p3 = c .before .before .before in
     let p4 = p3 .before in
     let p5 = p4 .before in
-    loop-made (queueAt b (p5 .args .p)) (p5 .args .s) (p5 .args .wb) (p5 .args .got)
+    loop-made (queueAt b (p5 .args .p)) (p5 .args .s .decoding) (p5 .args .s .«buffers_v2») (p5 .args .wb) (p5 .args .got)
     (p4 .wrapping-add-u32 .ensures) (p3 .loops-over .ensures) (c .before .before .end-if .ensures b e)
     (sym (c .before .resets .ensures) ∙ c .if1 .taken)
 
@@ -32,7 +32,7 @@ returns-2 c b e =
     let p3 = c .before .before .before in
     let p4 = p3 .before in
     let p5 = p4 .before in
-    loop-made (queueAt b (p5 .args .p)) (p5 .args .s) (p5 .args .wb) (p5 .args .got)
+    loop-made (queueAt b (p5 .args .p)) (p5 .args .s .decoding) (p5 .args .s .«buffers_v2») (p5 .args .wb) (p5 .args .got)
     (p4 .wrapping-add-u32 .ensures) (p3 .loops-over .ensures) (c .before .before .end-if .ensures b e)
     (sym (c .before .resets .ensures) ∙ c .if1 .left)
 

@@ -6,6 +6,7 @@ use borrow.Author.Tests.{eq-eqb, ne-eqb}
 use borrow.Author.Needs.{needs}
 use Rattle.adpcm.specs.Places.{nibbleOf, sizeOf, nibble-le}
 use Rattle.plan.specs.Laws.{adpcm-made}
+use Rattle.plan.specs.Source.{over}
 use Rattle.plan.proofs.attempt.plan_adpcm.Statement.{statement}
 use Rattle.plan.proofs.attempt.plan_adpcm.Tie as tie
 
@@ -34,7 +35,7 @@ least-past a b f = omega arith
 -- the bytes from first on
 module _ (c : tie.After-least) where
   abbrev begun : tie.Start
-  begun = c .before .before .before .before .before .before
+  begun = c .before .before .before .before .before .before .before
 
   first : c .before .before .before .before .before .adpcm-nibble-byte .result .0 ≡ nibbleOf (begun .args .start .0) / 2
   first = c .before .before .before .before .before .adpcm-nibble-byte .ensures
@@ -52,7 +53,7 @@ returns : tie.Need-returns
 returns c =
     let l = c .before .before in
     let a = begun l .args in
-    c .missing .ensures ∙ adpcm-made (a .s) (a .wb) (a .start) (a .want) (first l) (bytes l) (eq-eqb _ 0 (c .before .if1 .taken)) refl refl refl refl
+    c .missing .ensures ∙ adpcm-made (over (a .s) (a .ranges .now)) (a .wb) (a .start) (a .want) (first l) (bytes l) (eq-eqb _ 0 (c .before .if1 .taken)) refl refl refl refl
 
 wrapping-add-u64-requires : tie.Need-wrapping-add-u64-requires
 wrapping-add-u64-requires c κs = search needs
@@ -72,7 +73,7 @@ returns-2 c =
     let r = c .before .before .before in
     let l = r .before .before .before in
     let a = begun l .args in
-    adpcm-made (a .s) (a .wb) (a .start) (a .want) (first l) (bytes l) (ne-eqb _ 0 (r .before .before .if1 .left)) (r .before .wrapping-add-u64 .ensures) (sym (r .readable .ensures) ∙ c .before .before .if2 .taken) (c .before .adpcm-count .ensures)
+    adpcm-made (over (a .s) (a .ranges .now)) (a .wb) (a .start) (a .want) (first l) (bytes l) (ne-eqb _ 0 (r .before .before .if1 .left)) (r .before .wrapping-add-u64 .ensures) (sym (r .readable .ensures) ∙ c .before .before .if2 .taken) (c .before .adpcm-count .ensures)
     (eq-eqb _ 0 (c .if3 .taken))
 
 returns-3 : tie.Need-returns-3
@@ -80,7 +81,7 @@ returns-3 c =
     let r = c .before .before .before in
     let l = r .before .before .before in
     let a = begun l .args in
-    adpcm-made (a .s) (a .wb) (a .start) (a .want) (first l) (bytes l) (ne-eqb _ 0 (r .before .before .if1 .left)) (r .before .wrapping-add-u64 .ensures) (sym (r .readable .ensures) ∙ c .before .before .if2 .taken) (c .before .adpcm-count .ensures)
+    adpcm-made (over (a .s) (a .ranges .now)) (a .wb) (a .start) (a .want) (first l) (bytes l) (ne-eqb _ 0 (r .before .before .if1 .left)) (r .before .wrapping-add-u64 .ensures) (sym (r .readable .ensures) ∙ c .before .before .if2 .taken) (c .before .adpcm-count .ensures)
     (ne-eqb _ 0 (c .if3 .left))
 
 missing-requires-2 : tie.Need-missing-requires-2
@@ -92,7 +93,7 @@ returns-4 c =
     let l = r .before .before .before in
     let a = begun l .args in
     c .missing2 .ensures
-    ∙ adpcm-made (a .s) (a .wb) (a .start) (a .want) (first l) (bytes l) (ne-eqb _ 0 (r .before .before .if1 .left)) (r .before .wrapping-add-u64 .ensures) (sym (r .readable .ensures) ∙ c .before .if2 .left) refl refl
+    ∙ adpcm-made (over (a .s) (a .ranges .now)) (a .wb) (a .start) (a .want) (first l) (bytes l) (ne-eqb _ 0 (r .before .before .if1 .left)) (r .before .wrapping-add-u64 .ensures) (sym (r .readable .ensures) ∙ c .before .if2 .left) refl refl
 
 pub plan-adpcm-spec : {M : Type 1} → statement M
 plan-adpcm-spec =

@@ -6,6 +6,7 @@ use native.Mathlib.Nat.{mul-le-mul, mul-pos}
 use borrow.Author.Tests.{eq-eqb, ne-eqb}
 use borrow.Author.Needs.{needs}
 use Rattle.plan.specs.Laws.{pcm-made}
+use Rattle.plan.specs.Source.{over}
 use Rattle.plan.proofs.attempt.plan_pcm.Statement.{statement}
 use Rattle.plan.proofs.attempt.plan_pcm.Tie as tie
 
@@ -18,13 +19,13 @@ module _ (c : tie.Start) where
   frame-some = mul-pos (c .pre .0 .0) (c .pre .1 .0 .0)
 
 mul-frame : tie.Need-mul-frame
-mul-frame c = omega (arith, frame-le (c .before))
+mul-frame c = omega (arith, frame-le (c .before .before))
 
 cast-frame : tie.Need-cast-frame
-cast-frame c = omega (arith, frame-le (c .before))
+cast-frame c = omega (arith, frame-le (c .before .before))
 
 div-frames : tie.Need-div-frames
-div-frames c = frame-some (c .before .before)
+div-frames c = frame-some (c .before .before .before)
 
 frames-left-requires : tie.Need-frames-left-requires
 frames-left-requires c κs = search needs
@@ -32,7 +33,7 @@ frames-left-requires c κs = search needs
 -- the function's start
 module _ (c : tie.After-frames-left) where
   abbrev begun : tie.Start
-  begun = c .before .before .before
+  begun = c .before .before .before .before
 
 missing-requires : tie.Need-missing-requires
 missing-requires c κs = search needs
@@ -41,7 +42,7 @@ returns : tie.Need-returns
 returns c =
     let l = c .before .before in
     let a = begun l .args in
-    c .missing .ensures ∙ pcm-made (a .width) (a .s) (a .wb) (a .start) (a .want) (l .frames-left .ensures) (eq-eqb _ 0 (c .before .if1 .taken)) refl refl
+    c .missing .ensures ∙ pcm-made (a .width) (over (a .s) (a .ranges .now)) (a .wb) (a .start) (a .want) (l .frames-left .ensures) (eq-eqb _ 0 (c .before .if1 .taken)) refl refl
 
 mul-wrapping-add-u64 : tie.Need-mul-wrapping-add-u64
 mul-wrapping-add-u64 c =
@@ -68,7 +69,7 @@ returns-2 : tie.Need-returns-2
 returns-2 c =
     let l = c .before .before .before .before .before in
     let a = begun l .args in
-    pcm-made (a .width) (a .s) (a .wb) (a .start) (a .want) (l .frames-left .ensures) (ne-eqb _ 0 (c .before .before .before .before .if1 .left)) (c .before .before .wrapping-add-u64 .ensures)
+    pcm-made (a .width) (over (a .s) (a .ranges .now)) (a .wb) (a .start) (a .want) (l .frames-left .ensures) (ne-eqb _ 0 (c .before .before .before .before .if1 .left)) (c .before .before .wrapping-add-u64 .ensures)
     (sym (c .before .readable .ensures) ∙ c .if2 .taken)
 
 missing-requires-2 : tie.Need-missing-requires-2
@@ -80,7 +81,7 @@ returns-3 c =
     let l = r .before .before .before .before in
     let a = begun l .args in
     c .missing2 .ensures
-    ∙ pcm-made (a .width) (a .s) (a .wb) (a .start) (a .want) (l .frames-left .ensures) (ne-eqb _ 0 (r .before .before .before .if1 .left)) (r .before .wrapping-add-u64 .ensures)
+    ∙ pcm-made (a .width) (over (a .s) (a .ranges .now)) (a .wb) (a .start) (a .want) (l .frames-left .ensures) (ne-eqb _ 0 (r .before .before .before .if1 .left)) (r .before .wrapping-add-u64 .ensures)
     (sym (r .readable .ensures) ∙ c .before .if2 .left)
 
 pub plan-pcm-spec : {M : Type 1} → statement M

@@ -8,6 +8,7 @@ use Rattle.voice.specs.Queue.{noBuffer, queueAt}
 use Rattle.voice.specs.declared.wave.WaveBuffer.{WaveBuffer}
 use Rattle.voice.specs.declared.queue.Queue.{Queue}
 use Rattle.plan.specs.declared.Act.{Act}
+use Rattle.plan.specs.Source.{Source, over}
 use Rattle.plan.specs.Laws.{missing-made, samples-made, round-made}
 use Rattle.plan.specs.Rounds.{roundOf, roundPlan}
 use Rattle.plan.proofs.rounds.plan_round.Statement.{statement}
@@ -58,7 +59,10 @@ after-got-requires c κs = search needs
 -- what the calls up to the decode's plan give, for any four wave buffers that have wb where it plays
 module _ (c : tie.After-plan-decode) where
   abbrev start : tie.Start
-  start = c .before .before .before .before .before .before .before .before .before
+  start = c .before .before .before .before .before .before .before .before .before .before
+
+  abbrev s : Source
+  s = over (start .args .s) (start .args .ranges .now)
 
   abbrev w : WaveBuffer
   w = start .args .wb
@@ -73,26 +77,26 @@ module _ (c : tie.After-plan-decode) where
     abbrev q : Queue
     q = queueAt b (start .args .p)
 
-    made : roundOf q (start .args .s) w total act (c .plan-decode .result .got) ≡ roundPlan q (start .args .s) (start .args .left)
+    made : roundOf q s w total act (c .plan-decode .result .got) ≡ roundPlan q s (start .args .left)
     made =
         let least = c .before .before in
         let sub2 = least .before in
         let either2 = sub2 .before .before in
         let in-loop = either2 .before .before in
-        round-made q (start .args .s) (start .args .left) e (in-loop .before .context-read .ensures) (in-loop .in-loop .ensures)
+        round-made q s (start .args .left) e (in-loop .before .context-read .ensures) (in-loop .in-loop .ensures)
         (either2 .before .either .ensures) (either2 .either2 .ensures) (sub2 .before .saturating-sub .ensures)
         (sub2 .saturating-sub2 .ensures) (least .least .ensures) (c .before .wrapping-add-u32 .ensures) (c .plan-decode .ensures)
 
 returns : tie.Need-returns
 returns c b e =
     let p = c .before .before .before in
-    missing-made (q p b e) (start p .args .s) (w p) (total p) (act p) (c .before .enum-told .given .1) (c .after-missing .ensures b e)
+    missing-made (q p b e) (s p) (w p) (total p) (act p) (c .before .enum-told .given .1) (c .after-missing .ensures b e)
     ∙ made p b e
 
 returns-2 : tie.Need-returns-2
 returns-2 c b e =
     let p = c .before .before .before .before .before in
-    samples-made (q p b e) (start p .args .s) (w p) (total p) (act p) (c .before .before .before .result .given .1)
+    samples-made (q p b e) (s p) (w p) (total p) (act p) (c .before .before .before .result .given .1)
     (c .before .after-got .ensures b e) ∙ made p b e
 
 pub plan-round-spec : {M : Type 1} → statement M

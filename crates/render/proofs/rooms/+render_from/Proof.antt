@@ -17,14 +17,14 @@ use Rattle.render.proofs.rooms.+render_from.{statement}
 use Rattle.render.proofs.rooms.+render_from.Tie.{close}
 
 -- the rooms that are left
-abbrev μ-from : Measures 7 kinds.ps ℕ
+abbrev μ-from : Measures 8 kinds.ps ℕ
 μ-from κs a = 3 - a .0
 
-abbrev from-at : ℕ → In 7 kinds.ps
-from-at t = and 7 kinds.ps (is 7 kinds.ps μ-from t) from.Pre
+abbrev from-at : ℕ → In 8 kinds.ps
+from-at t = and 8 kinds.ps (is 8 kinds.ps μ-from t) from.Pre
 
-abbrev from-below : ℕ → In 7 kinds.ps
-from-below t = and 7 kinds.ps (falls 7 kinds.ps _<_ μ-from t) from.Pre
+abbrev from-below : ℕ → In 8 kinds.ps
+from-below t = and 8 kinds.ps (falls 8 kinds.ps _<_ μ-from t) from.Pre
 
 pub +render-from-spec : {M : Type 1} → statement M
 +render-from-spec =
@@ -48,11 +48,11 @@ pub +render-from-spec : {M : Type 1} → statement M
     from.Post
     (λ c. search needs)
     (λ c. search needs)
-    (λ c. omega (arith, floats-upto (c .before .before .before .before .before .before .before .before .before .pre .1 .0)))
-    (λ c κs. let pre = c .before .before .before .before .before .before .before .before .before .pre .1 in (floats-upto (pre .0), pre .0 .desk .allowed .samples))
+    (λ c. omega (arith, floats-upto (c .before .before .before .before .before .before .before .before .before .before .pre .1 .0)))
+    (λ c κs. let pre = c .before .before .before .before .before .before .before .before .before .before .pre .1 in (floats-upto (pre .0), pre .0 .desk .allowed .samples))
     (λ c κs.
     let asked = c .before .before .before .before .before .before .before .before in
-    let pre = asked .before .before .before .before .before .before .before .before .before .before .pre .1 in
+    let pre = asked .before .before .before .before .before .before .before .before .before .before .before .pre .1 in
     (pre .0, (pre .1, fits-at (c .before .before .before .before .before .before .if2 .taken) (asked .enough .ensures .0 (c .before .before .before .before .before .before .before .if1 .taken)))))
     (λ c. c .before .before .before .before .before .before .before .before .before .before .before .before .render-256 .kept .1 .1 .1 .0)
     (λ c. c .before .before .before .before .before .before .before .before .before .before .before .before .render-256 .kept .1 .1 .1 .1 .0)
@@ -63,7 +63,7 @@ pub +render-from-spec : {M : Type 1} → statement M
     (λ c. c .before .before .before .before .before .before .before .before .before .before .before .before .render-256 .ensures)
     (λ c κs.
     let asked = c .before .before .before .before .before .before .before .before .before in
-    let pre = asked .before .before .before .before .before .before .before .before .before .before .pre .1 in
+    let pre = asked .before .before .before .before .before .before .before .before .before .before .before .pre .1 in
     (pre .0, (pre .1, fits-at (c .before .before .before .before .before .before .if3 .taken) (asked .enough .ensures .0 (c .before .before .before .before .before .before .before .before .if1 .taken)))))
     (λ c. c .before .before .before .before .before .before .before .before .before .before .before .before .render-2560 .kept .1 .1 .1 .0)
     (λ c. c .before .before .before .before .before .before .before .before .before .before .before .before .render-2560 .kept .1 .1 .1 .1 .0)
@@ -74,7 +74,7 @@ pub +render-from-spec : {M : Type 1} → statement M
     (λ c. c .before .before .before .before .before .before .before .before .before .before .before .before .render-2560 .ensures)
     (λ c κs.
     let asked = c .before .before .before .before .before .before .before .before .before .before in
-    let pre = asked .before .before .before .before .before .before .before .before .before .before .pre .1 in
+    let pre = asked .before .before .before .before .before .before .before .before .before .before .before .pre .1 in
     (pre .0, (pre .1, fits-at (c .before .before .before .before .before .before .if4 .taken) (asked .enough .ensures .0 (c .before .before .before .before .before .before .before .before .before .if1 .taken)))))
     (λ c. c .before .before .before .before .before .before .before .before .before .before .before .before .render-6144 .kept .1 .1 .1 .0)
     (λ c. c .before .before .before .before .before .before .before .before .before .before .before .before .render-6144 .kept .1 .1 .1 .1 .0)
@@ -85,7 +85,7 @@ pub +render-from-spec : {M : Type 1} → statement M
     (λ c. c .before .before .before .before .before .before .before .before .before .before .before .before .render-6144 .ensures)
     (λ c κs.
     let asked = c .before .before .before .before .before .before .before .before .before .before in
-    let pre = asked .before .before .before .before .before .before .before .before .before .before .pre .1 in
+    let pre = asked .before .before .before .before .before .before .before .before .before .before .before .pre .1 in
     (pre .0, (pre .1, fits-last (pre .0))))
     (λ c. c .before .before .before .before .before .before .before .before .before .before .before .before .render-24576 .kept .1 .1 .1 .0)
     (λ c. c .before .before .before .before .before .before .before .before .before .before .before .before .render-24576 .kept .1 .1 .1 .1 .0)
@@ -96,7 +96,7 @@ pub +render-from-spec : {M : Type 1} → statement M
     (λ c. c .before .before .before .before .before .before .before .before .before .before .before .before .render-24576 .ensures)
     (λ c. omega (arith, c .before .enough .ensures .1 (c .if1 .left)))
     (λ c κs.
-    let start = c .before .before .before .before .before .before .before .before .before .before .before .before .before .before .before .before .before in
+    let start = c .before .before .before .before .before .before .before .before .before .before .before .before .before .before .before .before .before .before in
     (omega (arith, start .pre .0, c .before .before .before .before .before .before .before .enough .ensures .1 (c .before .before .before .before .before .before .if1 .left)), start .pre .1))
     (λ c. c .before .before .before .before .before .before .before .before .before .before .before .before .render-from .kept .1 .1 .1 .1 .0)
     (λ c. c .before .before .before .before .before .before .before .before .before .before .before .before .render-from .kept .1 .1 .1 .1 .1 .0)

@@ -3,6 +3,7 @@ use Prim.Native.Nat.{_≤_}
 use native.Mathlib.Omega.{arith}
 use borrow.Author.Needs.{needs}
 use lib.ListN.{length}
+use Rattle.plan.specs.Source.{over}
 use Rattle.sound.specs.Perform.{performed-at}
 use Rattle.rows.specs.Lent.{rest-lent, rest-returned}
 use Rattle.sound.proofs.act.play.Statement.{statement}
@@ -24,7 +25,18 @@ part-play-decode-end : tie.Need-part-play-decode-end
 part-play-decode-end c = search needs
 
 play-decode-requires : tie.Need-play-decode-requires
-play-decode-requires c κs = search needs
+play-decode-requires c κs =
+    let r = c .before .before .before .before .before .pre in (
+      record {
+        memory = r .0 .memory;
+        channels = r .0 .channels;
+        want = search needs;
+        few = r .0 .few;
+        reads = r .0 .reads;
+        formed = r .0 .formed;
+      },
+      r .1,
+    )
 
 same-length : tie.Need-same-length
 same-length c = search needs
@@ -32,10 +44,11 @@ same-length c = search needs
 returns : tie.Need-returns
 returns c =
     let p4 = c .before .before .before .before in
-    let p7 = p4 .before .before .before in
-    let h : p7 .args .at ≤ length (p7 .args .out .now) = omega (arith, p7 .pre .want) in
-    performed-at (p7 .args .s) (p7 .args .memory .now) (p7 .args .coefficients .now) (p7 .args .c) (p7 .args .a) (p7 .args .x) (p7 .args .at) (p4 .renew .ensures)
-    (rest-lent (p7 .args .out .now) (p7 .args .at) h) (rest-returned (p7 .args .out .now) (p7 .args .at) h _) (c .before .before .play-decode .ensures)
+    let p8 = p4 .before .before .before .before in
+    let a = p8 .args in
+    let h : a .at ≤ length (a .out .now) = omega (arith, p8 .pre .0 .want) in
+    performed-at (over (a .s) (a .ranges .now)) (a .memory .now) (a .coefficients .now) (a .c) (a .a) (a .x) (a .at) (p4 .renew .ensures)
+    (rest-lent (a .out .now) (a .at) h) (rest-returned (a .out .now) (a .at) h _) (c .before .before .play-decode .ensures)
 
 pub play-spec : {M : Type 1} → statement M
 play-spec =

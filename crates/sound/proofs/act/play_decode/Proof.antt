@@ -1,5 +1,6 @@
 -- `sound::play_decode` meets its contract: each arm is a case of the decode. Assumes nothing.
 use borrow.Author.Needs.{needs}
+use Rattle.plan.specs.Source.{over}
 use Rattle.sound.specs.Perform.{room-is, on-nothing, on-pcm, on-adpcm, on-silence}
 use Rattle.sound.proofs.act.play_decode.Statement.{statement}
 use Rattle.sound.proofs.act.play_decode.Tie as tie
@@ -11,16 +12,21 @@ enum-known-decode : tie.Need-enum-known-decode
 enum-known-decode c = search needs
 
 pcm-requires : tie.Need-pcm-requires
-pcm-requires c κs = let r = room-is (c .before .before .decode .given .1) (c .before .before .before .before .before .before .pre) in (r .formed, r .channels, r .want)
+pcm-requires c κs =
+    let p = c .before .before .before .before .before .before .before in
+    let r = room-is (c .before .before .decode .given .1) (p .pre .0) in
+    ((r .formed, r .channels, p .pre .1, r .want), (r .memory, r .reads))
 
-cast-t20 : tie.Need-cast-t20
-cast-t20 c = search needs
+cast-t21 : tie.Need-cast-t21
+cast-t21 c = search needs
 
 enum-known-decode-2 : tie.Need-enum-known-decode-2
 enum-known-decode-2 c = search needs
 
 play-adpcm-requires : tie.Need-play-adpcm-requires
-play-adpcm-requires c κs = room-is (c .before .before .decode2 .given .1) (c .before .before .before .before .before .before .pre)
+play-adpcm-requires c κs =
+    let r = room-is (c .before .before .decode2 .given .1) (c .before .before .before .before .before .before .before .pre .0) in
+    (r .memory, ((r .reads, r .formed), (r .want, r .few)))
 
 enum-known-decode-3 : tie.Need-enum-known-decode-3
 enum-known-decode-3 c = search needs
@@ -29,15 +35,16 @@ cast-zeros : tie.Need-cast-zeros
 cast-zeros c = search needs
 
 zeros-requires : tie.Need-zeros-requires
-zeros-requires c κs = room-is (c .before .before .decode3 .given .1) (c .before .before .before .before .before .before .pre) .want
+zeros-requires c κs =
+    room-is (c .before .before .decode3 .given .1) (c .before .before .before .before .before .before .before .pre .0) .want
 
-cast-t24 : tie.Need-cast-t24
-cast-t24 c = search needs
+cast-t25 : tie.Need-cast-t25
+cast-t25 c = search needs
 
 returns : tie.Need-returns
 returns c =
-    let p4 = c .before .before .before .before in
-    on-nothing (p4 .args .s) (p4 .args .memory .now) (p4 .args .coefficients .now) (p4 .args .c) (p4 .args .x) (p4 .args .out .now) (c .enum-told .given .1)
+    let a = c .before .before .before .before .before .args in
+    on-nothing (over (a .s) (a .ranges .now)) (a .memory .now) (a .coefficients .now) (a .c) (a .x) (a .out .now) (c .enum-told .given .1)
 
 same-length : tie.Need-same-length
 same-length c = search needs
@@ -45,8 +52,9 @@ same-length c = search needs
 returns-2 : tie.Need-returns-2
 returns-2 c =
     let p5 = c .before .before .before .before .before in
-    let p9 = p5 .before .before .before .before in
-    on-pcm (p9 .args .s) (p9 .args .memory .now) (p9 .args .coefficients .now) (p9 .args .c) (p9 .args .x) _ _ _ (p5 .decode .given .1) (c .before .before .pcm .ensures)
+    let a = p5 .before .before .before .before .before .args in
+    on-pcm (over (a .s) (a .ranges .now)) (a .memory .now) (a .coefficients .now) (a .c) (a .x) _ _ _ (p5 .decode .given .1)
+    (c .before .before .pcm .ensures)
 
 same-length-2 : tie.Need-same-length-2
 same-length-2 c = search needs
@@ -54,8 +62,9 @@ same-length-2 c = search needs
 returns-3 : tie.Need-returns-3
 returns-3 c =
     let p5 = c .before .before .before .before .before in
-    let p9 = p5 .before .before .before .before in
-    on-adpcm (p9 .args .s) (p9 .args .memory .now) (p9 .args .coefficients .now) (p9 .args .c) (p9 .args .x) _ _ _ _ (p5 .decode2 .given .1) (c .before .before .play-adpcm .ensures)
+    let a = p5 .before .before .before .before .before .args in
+    on-adpcm (over (a .s) (a .ranges .now)) (a .memory .now) (a .coefficients .now) (a .c) (a .x) _ _ _ _ (p5 .decode2 .given .1)
+    (c .before .before .play-adpcm .ensures)
 
 same-length-3 : tie.Need-same-length-3
 same-length-3 c = search needs
@@ -63,8 +72,9 @@ same-length-3 c = search needs
 returns-4 : tie.Need-returns-4
 returns-4 c =
     let p5 = c .before .before .before .before .before in
-    let p9 = p5 .before .before .before .before in
-    on-silence (p9 .args .s) (p9 .args .memory .now) (p9 .args .coefficients .now) (p9 .args .c) (p9 .args .x) _ (p5 .decode3 .given .1) (c .before .before .zeros .ensures)
+    let a = p5 .before .before .before .before .before .args in
+    on-silence (over (a .s) (a .ranges .now)) (a .memory .now) (a .coefficients .now) (a .c) (a .x) _ (p5 .decode3 .given .1)
+    (c .before .before .zeros .ensures)
 
 pub play-decode-spec : {M : Type 1} → statement M
 play-decode-spec =
@@ -73,13 +83,13 @@ play-decode-spec =
     enum-told
     enum-known-decode
     pcm-requires
-    cast-t20
+    cast-t21
     enum-known-decode-2
     play-adpcm-requires
     enum-known-decode-3
     cast-zeros
     zeros-requires
-    cast-t24
+    cast-t25
     returns
     same-length
     returns-2

@@ -1,5 +1,5 @@
 -- `sound::fetch_channel` meets its contract: after each round, the samples so far are what the acts so far make. Assumes nothing.
-use Prim.Native.Nat.{ℕ, _-_, _^_, _≤_}
+use Prim.Native.Nat.{ℕ, _-_, _≤_}
 use mathlib.Core.Logic.{⊎-elim}
 use mathlib.Core.Path.{_≡_, refl, ap, sym, subst}
 use native.Mathlib.Omega.{arith}
@@ -7,6 +7,7 @@ use borrow.Author.Needs.{needs}
 use lib.ListN.{length, length-set}
 use Rattle.voice.specs.declared.queue.Spot.{Spot}
 use Rattle.voice.specs.Queue.{queueAt}
+use Rattle.plan.specs.Source.{over}
 use Rattle.plan.specs.Fetch.{round-upto, round-index, plan-full, plan-stop}
 use Rattle.sound.specs.Channel.{Ready, FetchedBy, Playing, headed, length-headed}
 use Rattle.sound.specs.Channel.{going-none, going-place, going-room, going-more, going-same, going-end}
@@ -14,30 +15,32 @@ use Rattle.sound.proofs.channel.fetch_channel.Statement.{statement}
 use Rattle.sound.proofs.channel.fetch_channel.Tie as tie
 
 abbrev Inv-loop : tie.InvT-loop
-Inv-loop s memory coefficients c out₀ count buffers spot₀ x₀ done₀ rounds₀ going₀ out spot x done rounds going =
-    Playing (queueAt buffers spot₀) s memory coefficients c count x₀ out₀ out (queueAt buffers spot) x done rounds going
+Inv-loop s ranges memory coefficients c out₀ count buffers spot₀ x₀ done₀ rounds₀ going₀ out spot x done rounds going =
+    Playing (queueAt buffers spot₀) (over s ranges) memory coefficients c count x₀ out₀ out (queueAt buffers spot) x done rounds going
 
 abbrev μ-loop : tie.MeasureT-loop
-μ-loop s memory coefficients c out₀ count buffers spot₀ x₀ done₀ rounds₀ going₀ out spot x done rounds going = 64 - rounds
+μ-loop s ranges memory coefficients c out₀ count buffers spot₀ x₀ done₀ rounds₀ going₀ out spot x done rounds going = 64 - rounds
 
 -- the history has three
-three : (c : tie.Start Inv-loop μ-loop) → length (c .args .t6) ≡ 3
-three c = c .good .1 .1 .1 .1 .1 .0 .1 .0 .1
+three : (c : tie.Start Inv-loop μ-loop) → length (c .args .t7) ≡ 3
+three c = c .good .1 .1 .1 .1 .1 .1 .0 .1 .0 .1
 
 -- where the function begins, of the place where its loop does
 abbrev start : tie.After-spot-of Inv-loop μ-loop → tie.Start Inv-loop μ-loop
-start c = c .before .before .before .before
+start c = c .before .before .before .before .before
 
 -- what is asked of q is asked of its buffers at its spot
 ready : (c : tie.After-spot-of Inv-loop μ-loop)
-    → (let a = start c .args in Ready (queueAt (a .q .buffers) (c .spot-of .result)) (a .s) (a .memory .now) (a .out .now))
+    → (let a = start c .args in
+    Ready (queueAt (a .q .buffers) (c .spot-of .result)) (over (a .s) (a .ranges .now)) (a .memory .now) (a .out .now))
 ready c =
     let a = start c .args in
-    subst (λ (p : Spot). Ready (queueAt (a .q .buffers) p) (a .s) (a .memory .now) (a .out .now)) (sym (c .spot-of .ensures)) (start c .pre)
+    subst (λ (p : Spot). Ready (queueAt (a .q .buffers) p) (over (a .s) (a .ranges .now)) (a .memory .now) (a .out .now))
+    (sym (c .spot-of .ensures)) (start c .pre .0)
 
 -- the samples of the row are few
-few : (c : tie.Start Inv-loop μ-loop) → length (headed (c .args .t6) (c .args .out .now)) ≤ 2 ^ 16
-few c = omega (arith, length-headed (c .args .t6) (c .args .out .now), c .pre .long)
+few : (c : tie.Start Inv-loop μ-loop) → length (headed (c .args .t7) (c .args .out .now)) ≤ 4100
+few c = omega (arith, length-headed (c .args .t7) (c .args .out .now), c .pre .0 .long)
 
 array-read-out : tie.Need-array-read-out Inv-loop μ-loop
 array-read-out c = search needs
@@ -49,7 +52,7 @@ array-read-out-2 : tie.Need-array-read-out-2 Inv-loop μ-loop
 array-read-out-2 c = search needs
 
 slice-write-out-2 : tie.Need-slice-write-out-2 Inv-loop μ-loop
-slice-write-out-2 c = rw length-set (omega (arith, c .before .before .pre .history))
+slice-write-out-2 c = rw length-set (omega (arith, c .before .before .before .pre .0 .history))
 
 array-read-out-3 : tie.Need-array-read-out-3 Inv-loop μ-loop
 array-read-out-3 c = search needs
@@ -58,10 +61,10 @@ slice-write-out-3 : tie.Need-slice-write-out-3 Inv-loop μ-loop
 slice-write-out-3 c = search needs
 
 sub-count : tie.Need-sub-count Inv-loop μ-loop
-sub-count c = simp length-set (omega (arith, c .before .before .pre .history))
+sub-count c = simp length-set (omega (arith, c .before .before .before .pre .0 .history))
 
 cast-count : tie.Need-cast-count Inv-loop μ-loop
-cast-count c = simp length-set (omega (arith, c .before .before .pre .long))
+cast-count c = simp length-set (omega (arith, c .before .before .before .pre .0 .long))
 
 spot-of-requires : tie.Need-spot-of-requires Inv-loop μ-loop
 spot-of-requires c κs = search needs
@@ -72,7 +75,7 @@ begins-requires c κs = ready c .index
 loop-holds : tie.Need-loop-holds Inv-loop μ-loop
 loop-holds c =
     let a = start (c .before) .args in
-    going-none (a .t6) (ready (c .before)) (ap (λ (n : ℕ). n - 3) (length-headed (a .t6) (a .out .now))) (c .begins .ensures _)
+    going-none (a .t7) (ready (c .before)) (ap (λ (n : ℕ). n - 3) (length-headed (a .t7) (a .out .now))) (c .begins .ensures _)
 
 cast-b : tie.Need-cast-b Inv-loop μ-loop
 cast-b c = search needs
@@ -90,7 +93,7 @@ plan-round-requires : tie.Need-plan-round-requires Inv-loop μ-loop
 plan-round-requires c κs =
     let l = c .before .before .before .before in
     let f = start (l .before .before) in
-    (l .loop .inv .planning .index, ((f .pre .some, f .pre .channels), omega (arith, few f)))
+    (l .loop .inv .planning .index, ((f .pre .0 .some, f .pre .0 .channels), omega (arith, few f)))
 
 cast-play : tie.Need-cast-play Inv-loop μ-loop
 cast-play c =
@@ -106,7 +109,7 @@ play-requires : tie.Need-play-requires Inv-loop μ-loop
 play-requires c κs =
     let l = c .before .before .before .before .before .before .before in
     let g = l .before .before in
-    going-room (start g .args .t6) (ready g) (l .loop .inv) (c .before .before .plan-round .ensures _ refl)
+    (going-room (start g .args .t7) (ready g) (l .loop .inv) (c .before .before .plan-round .ensures _ refl), start g .pre .1)
 
 add-done : tie.Need-add-done Inv-loop μ-loop
 add-done c =
@@ -132,7 +135,7 @@ loop-again c =
     let t = b .before .before .before .before in
     let l = t .before in
     let g = l .before .before in
-    going-more (start g .args .t6) (ready g) (l .loop .inv) (b .plan-round .ensures _ refl) (y .play .ensures) (t .loop-test .taken)
+    going-more (start g .args .t7) (ready g) (l .loop .inv) (b .plan-round .ensures _ refl) (y .play .ensures) (t .loop-test .taken)
     (b .before .before .before .if1 .taken) (c .begins2 .ensures _)
 
 cast-at : tie.Need-cast-at Inv-loop μ-loop
@@ -145,13 +148,13 @@ zeros-from-requires : tie.Need-zeros-from-requires Inv-loop μ-loop
 zeros-from-requires c κs =
     let l = c .before .before in
     let g = l .before .before in
-    going-place (start g .args .t6) (ready g) (l .loop .inv)
+    going-place (start g .args .t7) (ready g) (l .loop .inv)
 
 same-length : tie.Need-same-length Inv-loop μ-loop
 same-length c =
     let l = c .before .before .before .before .before in
     let g = l .before .before in
-    going-same (start g .args .t6) (ready g) (l .loop .inv) (c .before .before .zeros-from .ensures)
+    going-same (start g .args .t7) (ready g) (l .loop .inv) (c .before .before .zeros-from .ensures)
 
 returns : tie.Need-returns Inv-loop μ-loop
 returns c =
@@ -162,9 +165,9 @@ returns c =
     let e = ⊎-elim (λ w. plan-stop p (w .1 .left)) (λ w. plan-full p (w .left)) (c .before .before .before .before .loop-test .came) in
     let n = length (a .out .now) - 3 in
     subst (λ (p : Spot).
-    FetchedBy (queueAt (a .q .buffers) p) (a .s) (a .memory .now) (a .coefficients .now) (a .c) (a .adpcm) (a .t6) n
+    FetchedBy (queueAt (a .q .buffers) p) (over (a .s) (a .ranges .now)) (a .memory .now) (a .coefficients .now) (a .c) (a .adpcm) (a .t7) n
     (c .before .before .zeros-from .last .0) (l .loop .x))
-    (g .spot-of .ensures) (going-end (a .t6) (ready g) (l .loop .inv) (three (start g)) e (c .before .before .zeros-from .ensures))
+    (g .spot-of .ensures) (going-end (a .t7) (ready g) (l .loop .inv) (three (start g)) e (c .before .before .zeros-from .ensures))
 
 pub fetch-channel-spec : {M : Type 1} → statement M
 fetch-channel-spec =

@@ -23,7 +23,7 @@ queue-of-requires c κs = search needs
 
 plan-fetch-requires : tie.Need-plan-fetch-requires
 plan-fetch-requires c κs =
-    let e : c .queue-of .result .index ≡ c .before .before .before .before .before .before .before .before .args .v .index = ap (λ (q : Queue). q .index) (c .queue-of .ensures) in
+    let e : c .queue-of .result .index ≡ c .before .before .before .before .before .before .before .before .before .args .v .index = ap (λ (q : Queue). q .index) (c .queue-of .ensures) in
     (omega arith, ((omega arith, omega arith), omega arith))
 
 with-queue-requires : tie.Need-with-queue-requires

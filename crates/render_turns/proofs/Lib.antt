@@ -1,0 +1,2 @@
+pub mod Loop
+pub mod After
