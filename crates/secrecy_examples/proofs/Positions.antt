@@ -60,7 +60,8 @@ pub frames : (framesAt st one 5 ≡ frame 1 ++ frame 3)
 unfolding computing startFor desk updatingAll rendering pcm
 frames = (refl, refl, refl)
 
-opened-on : openCall (params (revision 2)) slices .number ≡ 0
+-- the open succeeds
+pub opened-on : openCall (params (revision 2)) slices .number ≡ 0
 unfolding computing slicesFor
 opened-on = refl
 

@@ -11,17 +11,17 @@ use lib.IntN.{negsuc}
 use lib.ListN.{take, drop, getD}
 use Rattle.ranges.specs.Ranges.{Range, range}
 use Rattle.state.specs.State.{State}
-use Rattle.calls.specs.Calls.{openCall}
 use Rattle.alike.specs.Reads.{span}
 use Rattle.secrecy.specs.Sessions.{Call, framesAt}
 use Rattle.secrecy.specs.Declared.{declared, routed}
 use Rattle.secrecy.specs.Demand.{Agree, Condition}
 use Rattle.secrecy.specs.Secrecy.{demand3}
 use Rattle.secrecy.specs.Computing.{computing}
-use Rattle.secrecy.specs.Inputs.{params, revision, slices, slicesFor, start, startFor, desk, updatingAll, base, twoRanges, laidApart}
+use Rattle.secrecy.specs.Inputs.{params, revision, slices, start, startFor, desk, updatingAll, base, twoRanges, laidApart}
 use Rattle.secrecy.specs.Inputs.{renderingIn, pcmVoice, pcm, memoryApart, adpcmVoice, adpcm, frame, silence}
 use Rattle.secrecy.proofs.Same.{sameOn, agrees}
 use Rattle.secrecy_examples.specs.Declared.{pcmSpans, adpcmSpans}
+use Rattle.secrecy_examples.proofs.Positions.{opened-on}
 
 -- a session's state with one voice, of revision 2
 abbrev pub st : State
@@ -58,11 +58,6 @@ missing = (refl, refl)
 -- the same but for the five bytes of the slice that lie in no range
 abbrev pub outside : List Call
 outside = session 0 (memoryApart 0x100 7 0xff)
-
--- the open succeeds
-opened-on : openCall (params (revision 2)) slices .number ≡ 0
-unfolding computing slicesFor
-opened-on = refl
 
 -- the condition holds of the two
 pub unasked : Condition (params (revision 2)) st one outside 3
