@@ -19,17 +19,21 @@ fetch-channel-requires : tie.Need-fetch-channel-requires
 fetch-channel-requires c κs =
     let five = c .before .before .before .before in
     let thirteen = five .before .before in
-    let tests = thirteen .before .before .before .before .before .before .before .before .before in (
+    let inside = thirteen .before .before in
+    let few = inside .before .before in
+    let some = few .before .before in
+    let index = some .before .before in
+    let long = index .before .before in (
       record {
-        history = omega (arith, tests .before .before .if1 .left);
-        long = omega (arith, tests .before .if2 .left);
-        index = omega arith;
-        some = omega arith;
-        channels = omega arith;
+        history = omega (arith, long .before .if1 .left);
+        long = omega (arith, long .if2 .left);
+        index = omega (arith, index .if3 .left);
+        some = omega (arith, some .if4 .left);
+        channels = omega (arith, few .if5 .left);
         memory = laid-facts _ _ (sym (thirteen .before .laid .ensures) ∙ not-false _ (thirteen .if7 .left))
             (sym (five .before .near .ensures) ∙ not-false _ (five .if8 .left));
       },
-      omega arith,
+      omega (arith, inside .if6 .left),
     )
 
 pub fetch-row-spec : {M : Type 1} → statement M

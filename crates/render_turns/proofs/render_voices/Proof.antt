@@ -36,8 +36,8 @@ render-voice-requires c κs =
     let start = tested .before .before .before .before .before .before .before .before .before .before .before .before .before in
     let test = tested .loop-test .taken in
     let g = l .inv .0 in
-    let room = record { rows = omega (arith, l .inv .2, start .pre .1 .rows) } in
-    (g .playing .desk, (test, (g .playing .voices (l .k) (omega arith) test, room)))
+    let playable = g .playing .voices (l .k) (omega arith) test in
+    (g .playing .desk, (test, (playable, record { rows = omega (arith, l .inv .2, start .pre .1 .rows) })))
 
 add-rounds : tie.Need-add-rounds Inv-loop μ-loop
 add-rounds c =
