@@ -1,5 +1,5 @@
 -- The plan of a decode (mixer.rs `decode`): how many samples a wave buffer gives from a place on, and what is read for them.
--- No byte of sample memory is looked at: only its base and size.
+-- No byte of sample memory is looked at: only its ranges.
 use Prim.Native.Nat.{ℕ, _+_, _-_, _*_, _/_, _%_, _^_, min}
 use mathlib.Core.Bool.{cond}
 use lib.Dec.{leb, eqb}
