@@ -1,3 +1,4 @@
 pub mod Lying
 pub mod SameBytes
 pub mod Near
+pub mod Piecewise

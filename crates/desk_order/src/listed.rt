@@ -25,7 +25,7 @@ fn listed(order: &[u32]) -> MixOrder
     }
 }
 
-// `list_order` with room lent for the order, and for each mix's next one and distance.
+// `list_order` with room lent for a word a mix, twice.
 fn list_order_in(
     mixes: &[u32],
     nm: usize,
@@ -33,13 +33,12 @@ fn list_order_in(
     ns: usize,
     nd: usize,
     order: &mut [u32],
-    nexts: &mut [u32],
     distances: &mut [u32],
 ) -> MixOrder
-    requires { ⌜ Mixes nm (now mixes) ⌝ ∗ ⌜ Lists ns nd (now lists) ⌝ ∗ ⌜ (nm ≤ length (now order)) × (length (now nexts) ≡ nm) × (length (now distances) ≡ nm) ⌝ }
+    requires { ⌜ Mixes nm (now mixes) ⌝ ∗ ⌜ Lists ns nd (now lists) ⌝ ∗ ⌜ (length (now order) ≡ nm) × (length (now distances) ≡ nm) ⌝ }
     ensures { λ r. ⌜ r ≡ listedOf (mixOrder nm ns nd (now (mixes .entry)) (now (lists .entry))) ⌝ }
 {
-    let count = crate::mix_order(order, nexts, distances, mixes, nm, lists, ns, nd);
+    let count = crate::mix_order(order, distances, mixes, nm, lists, ns, nd);
     listed(&order[..count])
 }
 
@@ -48,17 +47,15 @@ pub fn list_order(mixes: &[u32], nm: usize, lists: &[u32], ns: usize, nd: usize)
     requires { ⌜ Mixes nm (now mixes) ⌝ ∗ ⌜ Lists ns nd (now lists) ⌝ }
     ensures { λ r. ⌜ r ≡ listedOf (mixOrder nm ns nd (now (mixes .entry)) (now (lists .entry))) ⌝ }
 {
-    let mut nexts = [0u32; 32];
-    let mut distances = [0u32; 32];
     let mut order = [0u32; 32];
+    let mut distances = [0u32; 32];
     list_order_in(
         mixes,
         nm,
         lists,
         ns,
         nd,
-        &mut order,
-        &mut nexts[..nm],
+        &mut order[..nm],
         &mut distances[..nm],
     )
 }

@@ -69,7 +69,7 @@ fn final_volume(buffers: &mut [f32], n: usize, mixes: &[u32], volumes: &[f32], n
     scale(&mut buffers[..k], v);
 }
 
-// `render_mixes` with room lent for the order, and for each mix's next one and distance.
+// `render_mixes` with room lent for a word a mix, twice, to find the order.
 fn render_mixes_in(
     buffers: &mut [f32],
     n: usize,
@@ -82,13 +82,12 @@ fn render_mixes_in(
     nd: usize,
     destinations: &[f32],
     order: &mut [u32],
-    nexts: &mut [u32],
     distances: &mut [u32],
 )
-    requires { ⌜ Mixes nm (now mixes) ⌝ ∗ ⌜ Lists ns nd (now lists) ⌝ ∗ ⌜ (length (now volumes) ≡ nm * 577) × (length (now destinations) ≡ nd * 48) ⌝ ∗ ⌜ (1 ≤ n) × (n ≤ 256) × (length (now src) ≡ n) ⌝ ∗ ⌜ (nm ≤ length (now order)) × (length (now nexts) ≡ nm) × (length (now distances) ≡ nm) ⌝ }
+    requires { ⌜ Mixes nm (now mixes) ⌝ ∗ ⌜ Lists ns nd (now lists) ⌝ ∗ ⌜ (length (now volumes) ≡ nm * 577) × (length (now destinations) ≡ nd * 48) ⌝ ∗ ⌜ (1 ≤ n) × (n ≤ 256) × (length (now src) ≡ n) ⌝ ∗ ⌜ (length (now order) ≡ nm) × (length (now distances) ≡ nm) ⌝ }
     ensures { λ _. ⌜ now (buffers .exit) ≡ mixedDown n nm (now (mixes .entry)) (now (volumes .entry)) ns nd (now (lists .entry)) (now (destinations .entry)) (now (buffers .entry)) ⌝ }
 {
-    let count = desk_order::mix_order(order, nexts, distances, mixes, nm, lists, ns, nd);
+    let count = desk_order::mix_order(order, distances, mixes, nm, lists, ns, nd);
     run_mixes(
         buffers,
         n,
@@ -121,9 +120,12 @@ pub fn render_mixes(
     requires { ⌜ Mixes nm (now mixes) ⌝ ∗ ⌜ Lists ns nd (now lists) ⌝ ∗ ⌜ (length (now volumes) ≡ nm * 577) × (length (now destinations) ≡ nd * 48) ⌝ ∗ ⌜ (1 ≤ n) × (n ≤ 256) × (length (now src) ≡ n) ⌝ }
     ensures { λ _. ⌜ now (buffers .exit) ≡ mixedDown n nm (now (mixes .entry)) (now (volumes .entry)) ns nd (now (lists .entry)) (now (destinations .entry)) (now (buffers .entry)) ⌝ }
 {
-    let mut nexts = [0u32; 32];
-    let mut distances = [0u32; 32];
+    if nm == 1 {
+        final_volume(buffers, n, mixes, volumes, nm); // there is no sub-mix
+        return;
+    }
     let mut order = [0u32; 32];
+    let mut distances = [0u32; 32];
     render_mixes_in(
         buffers,
         n,
@@ -135,8 +137,7 @@ pub fn render_mixes(
         ns,
         nd,
         destinations,
-        &mut order,
-        &mut nexts[..nm],
+        &mut order[..nm],
         &mut distances[..nm],
     );
 }
