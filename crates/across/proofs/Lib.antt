@@ -1,4 +1,3 @@
 pub mod Lying
 pub mod SameBytes
 pub mod Near
-pub mod Piecewise

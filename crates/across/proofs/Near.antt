@@ -1,5 +1,5 @@
 -- A read of at least one byte that succeeds ends at 2^63 or before, so that no place in it goes round. Assumes nothing.
-use Prim.Native.Nat.{ℕ, zero, suc, _+_, _-_, _^_, _≤_, _<_}
+use Prim.Native.Nat.{ℕ, _+_, _-_, _^_, _≤_, _<_}
 use native.Mathlib.Omega.{arith}
 use mathlib.Core.Bool.{Bool, true, false, cond, true≢false}
 use mathlib.Core.List.{List}
@@ -27,9 +27,3 @@ read-near {rs = rs} s addr len some h =
     let z = eqb-true (leftOf rs addr len) 0 h in
     let last = inside-near s (addr + len - 1) (read-inside s addr len z (addr + len - 1) (omega arith) (omega arith)) in
     omega arith
-
--- nor does a place up to its end, of a read of any length
-pub place-near : {n e : ℕ} {rs : List Range} → Ascending n e rs → (addr len at : ℕ) → at ≤ len → addr < 2 ^ 64 → readableOf rs addr len ≡ true
-    → addr + at < 2 ^ 64
-place-near s addr zero at h l r = omega arith
-place-near s addr (suc len) at h l r = omega (arith, read-near s addr (suc len) (omega arith) r)

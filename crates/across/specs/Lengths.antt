@@ -8,13 +8,9 @@ contextBytes = 6
 abbrev pub tableBytes : ℕ
 tableBytes = 32
 
--- the frames of ADPCM that are gathered at once: 16 of them, and their samples
-abbrev pub pieceBytes : ℕ
-pieceBytes = 128
+-- at most: the ADPCM of one round, 4,097 samples; and a frame of PCM, six channels of four bytes
+abbrev pub adpcmBytes : ℕ
+adpcmBytes = 2342
 
-abbrev pub pieceSamples : ℕ
-pieceSamples = 224
-
--- at most: a frame of PCM, six channels of four bytes
 abbrev pub frameBytes : ℕ
 frameBytes = 24

@@ -1,14 +1,14 @@
 // A read of sample memory as the decoder takes it: from the slice itself where it lies in one range, gathered where it crosses.
 ghost use mathlib.Core.Path.{_≡_};
 ghost use mathlib.Core.Bool.{true};
-ghost use Prim.Native.Nat.{_-_, _%_, _≤_, _<_, _^_, min};
+ghost use Prim.Native.Nat.{_≤_, _^_};
 ghost use lib.ListN.{length, take};
 ghost use Rattle.ranges.specs.Ranges.{rangesOf, readableOf};
 ghost use Rattle.ranges.specs.Ascending.{Ascending};
 ghost use Rattle.memory.specs.Memory.{readOf};
 ghost use Rattle.adpcm.specs.Context.{contextOf, coefficientsOf};
 ghost use Rattle.adpcm.specs.Decode.{runOf, Decodes};
-ghost use Rattle.across.specs.Lengths.{contextBytes, tableBytes, pieceSamples, frameBytes};
+ghost use Rattle.across.specs.Lengths.{contextBytes, tableBytes, adpcmBytes, frameBytes};
 use adpcm::AdpcmContext;
 use adpcm::Decoded;
 use adpcm::Sample;
@@ -19,10 +19,8 @@ pub const CONTEXT_BYTES: usize = 6;
 // The bytes of eight pairs of coefficients.
 pub const TABLE_BYTES: usize = 32;
 
-// The bytes of the frames that are gathered at once, and their samples.
-const PIECE_BYTES: usize = 128;
-
-const PIECE_SAMPLES: usize = 224;
+// The most bytes that one read of ADPCM takes: those of 4,097 samples.
+pub const ADPCM_BYTES: usize = 2342;
 
 // The most bytes that a frame of PCM has: six channels of four.
 pub const FRAME_BYTES: usize = 24;
@@ -94,8 +92,8 @@ pub fn decode_adpcm(
     out: &mut [f32],
 ) -> Decoded
     requires { ⌜ Ascending (length (now memory)) 0 (rangesOf (now ranges)) ⌝ }
-    requires { ⌜ readableOf (rangesOf (now ranges)) addr bytes ≡ true ⌝ }
-    requires { ⌜ (start .0 < 2 ^ 32) × (want < 2 ^ 32) × (want ≤ length (now out)) ⌝ }
+    requires { ⌜ (readableOf (rangesOf (now ranges)) addr bytes ≡ true) × (bytes ≤ adpcmBytes) ⌝ }
+    requires { ⌜ (start .0 ≤ 2 ^ 60) × (want ≤ length (now out)) ⌝ }
     ensures { λ r. ⌜ Decodes (runOf (readOf (rangesOf (now (ranges .entry))) (now (memory .entry)) addr bytes) (start .0) want
         (now (coefficients .entry)) x) (now (out .entry)) (now (out .exit)) (r .done) (r .context) ⌝ }
 {
@@ -118,15 +116,7 @@ pub fn decode_adpcm(
     )
 }
 
-// How many of want samples from sample m on have their frames in a piece that begins with the byte of m's nibble.
-fn piece_samples(m: Sample, want: usize) -> usize
-    ensures { λ r. ⌜ r ≡ min want (pieceSamples - m .0 % 14) ⌝ }
-{
-    let before = (m.0 % adpcm::ADPCM_SAMPLES_PER_FRAME) as usize; // in its frame
-    fields::least(want, PIECE_SAMPLES - before)
-}
-
-// The same where no range has all of them: gathered and decoded piece by piece.
+// The same where no range has all of them: room for what is gathered stands on the stack here alone.
 fn decode_across(
     ranges: &[u64],
     memory: &[u8],
@@ -135,58 +125,27 @@ fn decode_across(
     start: Sample,
     want: usize,
     coefficients: &[i16; 16],
-    ctx: AdpcmContext,
+    x: AdpcmContext,
     out: &mut [f32],
 ) -> Decoded
     requires { ⌜ Ascending (length (now memory)) 0 (rangesOf (now ranges)) ⌝ }
-    requires { ⌜ readableOf (rangesOf (now ranges)) addr bytes ≡ true ⌝ }
-    requires { ⌜ (start .0 < 2 ^ 32) × (want < 2 ^ 32) × (want ≤ length (now out)) ⌝ }
+    requires { ⌜ (readableOf (rangesOf (now ranges)) addr bytes ≡ true) × (bytes ≤ adpcmBytes) ⌝ }
+    requires { ⌜ (start .0 ≤ 2 ^ 60) × (want ≤ length (now out)) ⌝ }
     ensures { λ r. ⌜ Decodes (runOf (readOf (rangesOf (now (ranges .entry))) (now (memory .entry)) addr bytes) (start .0) want
-        (now (coefficients .entry)) ctx) (now (out .entry)) (now (out .exit)) (r .done) (r .context) ⌝ }
+        (now (coefficients .entry)) x) (now (out .entry)) (now (out .exit)) (r .done) (r .context) ⌝ }
 {
-    let base = adpcm::adpcm_nibble_byte(start);
-    let mut block = [0u8; PIECE_BYTES];
-    let mut x = ctx;
-    let mut done = 0usize;
-    while done < want {
-        let m = start.plus(done as u64);
-        let at = adpcm::adpcm_nibble_byte(m).index_from(base);
-        let left = bytes - at;
-        if left <= PIECE_BYTES {
-            let r = decode_gathered(
-                ranges,
-                memory,
-                addr + at as u64,
-                &mut block[..left],
-                m,
-                want - done,
-                coefficients,
-                x,
-                &mut out[done..],
-            );
-            let last = r.context;
-            return Decoded {
-                done: done + r.done,
-                context: last,
-            };
-        }
-        let n = piece_samples(m, want - done);
-        let r = decode_gathered(
-            ranges,
-            memory,
-            addr + at as u64,
-            &mut block,
-            m,
-            n,
-            coefficients,
-            x,
-            &mut out[done..done + n],
-        );
-        let after = r.context;
-        x = after;
-        done += n;
-    }
-    Decoded { done, context: x }
+    let mut room = [0u8; ADPCM_BYTES];
+    decode_gathered(
+        ranges,
+        memory,
+        addr,
+        &mut room[..bytes],
+        start,
+        want,
+        coefficients,
+        x,
+        out,
+    )
 }
 
 // The bytes at an address, as many as block has, gathered into it and decoded from there.

@@ -7,7 +7,7 @@ use native.Mathlib.Numerals.{add-one}
 use native.Mathlib.Omega.{arith}
 use lib.Ieee.{Float, binary32, ofInt}
 use lib.IntN.{ℤ}
-use lib.ListN.{length, take, drop, set, length-set, length-map, length-append, take-append-drop}
+use lib.ListN.{length, take, drop, set, length-set, length-map, take-append-drop}
 use lib.Seq.{take-suc-set, drop-set-lt, drop-drop, length-take-le}
 use Rattle.adpcm.specs.Decode.{tookOf, Run, runFrom, floated, Decodes}
 use Rattle.adpcm.specs.declared.context.AdpcmContext.{AdpcmContext}
@@ -93,23 +93,3 @@ module _ (s : List ℕ) (base : ℕ) (k : List ℤ) where
     whole out x done fits h g =
         let left : count - done ≡ zero = omega arith in
         ended out x x done fits g (rw left refl)
-
-    -- what is left is decoded at once, into the rest of the output
-    pub rest-at-once : (out new : List Float) (x y : AdpcmContext) (done more : ℕ) (r : Run) → count ≤ length out₀
-        → Going s base k count start x₀ out₀ out x done → runFrom s base k (count - done) (start + done) x ≡ r
-        → Decodes r (drop done out) new more y
-        → Decodes (runFrom s base k count start x₀) out₀ (take done out ++ new) (done + more) y
-    rest-at-once out new x y done more r fits g e d =
-        let all : floated (runFrom s base k count start x₀ .samples) ≡ take done out ++ floated (r .samples) =
-        g .samples ∙ ap (λ (q : Run). take done out ++ floated (q .samples)) e in
-        let n : length (runFrom s base k count start x₀ .samples) ≡ done + more =
-        sym (length-map (runFrom s base k count start x₀ .samples) (ofInt binary32)) ∙ ap length all ∙ length-append (take done out) (floated (r .samples))
-        ∙ (λ i. length-take-le done out (omega (arith, g .size, g .le)) i + (length-map (r .samples) (ofInt binary32) ∙ sym (d .count)) i) in
-        record {
-          count = sym n;
-          context = d .context ∙ sym (g .context ∙ ap (λ (q : Run). q .context) e);
-          output = ap (λ (l : List Float). take done out ++ l)
-              (d .output ∙ (λ i. floated (r .samples) ++ drop (sym (d .count) i) (g .rest i)) ∙ ap (λ (l : List Float). floated (r .samples) ++ l) (drop-drop more done out₀))
-              ∙ sym (append-assoc (take done out) (floated (r .samples)) (drop (done + more) out₀))
-              ∙ (λ i. sym all i ++ drop (sym n i) out₀);
-        }

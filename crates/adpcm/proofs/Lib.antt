@@ -1,5 +1,5 @@
-pub mod Pieces
 pub mod Ints
 pub mod Going
 pub mod Frames
 pub mod Framed
+pub mod Spans

@@ -17,7 +17,7 @@ pub fn fetch_row(
     if out.len() < 3 {
         return adpcm;
     }
-    if out.len() > 65536 {
+    if out.len() > 4100 {
         return adpcm;
     }
     if q.index > 3 {

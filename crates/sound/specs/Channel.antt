@@ -1,5 +1,5 @@
 -- The rounds of a fetch on one channel's row, one after the other. Assumes nothing.
-use Prim.Native.Nat.{ℕ, _+_, _-_, _^_, _≤_, _<_}
+use Prim.Native.Nat.{ℕ, _+_, _-_, _≤_, _<_}
 use native.Mathlib.Omega.{arith}
 use mathlib.Core.Bool.{Bool, true, cond}
 use mathlib.Core.List.{List, [], _∷_, _++_, append-nil, append-assoc}
@@ -25,7 +25,7 @@ use Rattle.sound.specs.Perform.{fresh, RoomAt, PerformedAt, decode-after
 -- what a fetch asks: a buffer plays, the row has 3 places and one for each sample, and the ranges ascend over the memory
 pub record Ready (q : Queue) (s : Source) (m : List ℕ) (row : List Float) : Type 0 where
   pub history : 3 ≤ length row
-  pub long : length row ≤ 2 ^ 16
+  pub long : length row ≤ 4100
   pub index : q .index < 4
   pub some : 0 < s .channels
   pub channels : s .channels ≤ 6
@@ -128,11 +128,12 @@ module _ {q : Queue} {s : Source} {m : List ℕ} {table : List ℤ} {c count : �
     kept : Rounded w s (count - done) r
     kept = subst (Rounded w s (count - done)) (sym e) (rounded w s (count - done))
 
-    act-room : s .channels ≤ 6 → RoomAt s m (r .act .decode) (3 + done) row
-    act-room g = record {
+    act-room : s .channels ≤ 6 → length row₀ ≤ 4100 → RoomAt s m (r .act .decode) (3 + done) row
+    act-room g few = record {
       memory = laid;
       channels = g;
       want = omega (arith, row-long, kept .room, p .planning .upto, p .room);
+      few = omega (arith, kept .room, p .room);
       reads = kept .reads .decode;
       formed = kept .reads .formed;
     }
@@ -217,7 +218,7 @@ module _ {q : Queue} {s : Source} {m : List ℕ} {row : List Float} (h : List Fl
 
     module _ {t : Round} (e : t ≡ roundPlan w s (count - done)) where
       pub going-room : RoomAt s m (t .act .decode) (3 + done) l
-      going-room = act-room g e (r .memory) (r .channels)
+      going-room = act-room g e (r .memory) (r .channels) (omega (arith, length-headed h row, r .long))
 
       pub going-more : {l′ : List Float} {y : AdpcmContext} {n : ℕ} {going′ : Bool}
           → PerformedAt (3 + done) (perform s m table c (t .act) (fresh x)) l l′ n y → k < 64 → going ≡ true

@@ -34,11 +34,16 @@ use Rattle.sound.specs.Sound.{pcmOf, Deck, decodeAdpcm, decodeOn, perfor
 abbrev pub fresh : AdpcmContext → Deck
 fresh x = record { adpcm = x; out = [] }
 
--- what a decode asks: room for its samples, and that its read succeeds
+-- the most samples that a round makes: a fetch's
+abbrev pub mostSamples : ℕ
+mostSamples = 4097
+
+-- what a decode asks: room for its samples, which are few, and that its read succeeds
 pub record Room (s : Source) (m : List ℕ) (d : Decode) (out : List Float) : Type 0 where
   pub memory : Ascending (length m) 0 (s .ranges)
   pub channels : s .channels ≤ 6
   pub want : wantOf d ≤ length out
+  pub few : wantOf d ≤ mostSamples
   pub reads : readsOf s d ≡ true
   pub formed : formedOf d ≡ true
 
@@ -47,6 +52,7 @@ pub record RoomAt (s : Source) (m : List ℕ) (d : Decode) (at : ℕ) (row : Lis
   pub memory : Ascending (length m) 0 (s .ranges)
   pub channels : s .channels ≤ 6
   pub want : at + wantOf d ≤ length row
+  pub few : wantOf d ≤ mostSamples
   pub reads : readsOf s d ≡ true
   pub formed : formedOf d ≡ true
 

@@ -11,7 +11,7 @@ ghost use Rattle.plan.specs.declared.Decode.the-variants.{Adpcm};
 ghost use Rattle.plan.specs.Source.{over};
 ghost use Rattle.plan.specs.Fits.{formedOf};
 ghost use Rattle.sound.specs.Sound.{decodeAdpcm, decodeOn, perform};
-ghost use Rattle.sound.specs.Perform.{fresh, Room, RoomAt, Performed, PerformedAt};
+ghost use Rattle.sound.specs.Perform.{mostSamples, fresh, Room, RoomAt, Performed, PerformedAt};
 use crate::pcm::pcm;
 use crate::pcm::zeros;
 use adpcm::AdpcmContext;
@@ -41,7 +41,7 @@ fn play_adpcm(
 ) -> Played
     requires { ⌜ Ascending (length (now memory)) 0 (rangesOf (now ranges)) ⌝ }
     requires { ⌜ (readableOf (rangesOf (now ranges)) addr bytes ≡ true) × (formedOf (Adpcm want addr bytes start) ≡ true) ⌝ }
-    requires { ⌜ want ≤ length (now out) ⌝ }
+    requires { ⌜ (want ≤ length (now out)) × (want ≤ mostSamples) ⌝ }
     ensures { λ r. ⌜ Performed (decodeAdpcm c (readOf (rangesOf (now (ranges .entry))) (now (memory .entry)) addr bytes) start want
         (now (coefficients .entry)) (fresh x)) (now (out .entry)) (now (out .exit)) (r .made) (r .adpcm) ⌝ }
 {

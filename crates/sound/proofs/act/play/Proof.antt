@@ -31,6 +31,7 @@ play-decode-requires c κs =
         memory = r .0 .memory;
         channels = r .0 .channels;
         want = search needs;
+        few = r .0 .few;
         reads = r .0 .reads;
         formed = r .0 .formed;
       },

@@ -6,7 +6,9 @@ use borrow.Author.Needs.{needs}
 use Rattle.ranges.specs.Ranges.{rangesOf}
 use Rattle.memory.proofs.Bytes.{length-read}
 use Rattle.adpcm.specs.Runs.{count-le}
-use Rattle.adpcm.specs.Places.{nibbleOf, sizeOf, nibble-le}
+use Rattle.adpcm.specs.Places.{nibbleOf, sizeOf}
+use Rattle.adpcm.proofs.Spans.{span-le}
+use Rattle.across.specs.Lengths.{adpcmBytes}
 use Rattle.plan.specs.Fits.{adpcm-formed}
 use Rattle.sound.specs.Perform.{adpcm-first, adpcm-others}
 use Rattle.sound.proofs.act.play_adpcm.Statement.{statement}
@@ -17,14 +19,14 @@ formed : (c : tie.Start)
     → (c .args .start .0 < 2 ^ 32) × (nibbleOf (c .args .start .0) / 2 + c .args .bytes ≤ sizeOf (c .args .start .0 + c .args .want))
 formed c = adpcm-formed (c .args .addr) (c .args .bytes) (c .args .start) (c .args .want) (c .pre .1 .0 .1)
 
-few : (c : tie.Start) → c .args .bytes ≤ 2 ^ 60
-unfolding sizeOf
-few c = omega (arith, formed c, nibble-le (c .args .start .0 + c .args .want))
+-- at most the bytes that as many samples span
+few : (c : tie.Start) → c .args .bytes ≤ adpcmBytes
+few c = omega (arith, formed c .1, span-le (c .args .start .0) (c .args .want) (c .pre .1 .1 .1))
 
 decode-adpcm-requires : tie.Need-decode-adpcm-requires
 decode-adpcm-requires c κs =
     let p = c .before .before .before .before .before in
-    (p .pre .0, (p .pre .1 .0 .0, (formed p .0, omega arith, p .pre .1 .1)))
+    (p .pre .0, ((p .pre .1 .0 .0, few p), (omega (arith, formed p .0), p .pre .1 .1 .0)))
 
 same-length : tie.Need-same-length
 same-length c = search needs
@@ -39,7 +41,7 @@ returns c =
 adpcm-count-requires : tie.Need-adpcm-count-requires
 adpcm-count-requires c κs =
     let p = c .before .before .before .before in
-    (omega (arith, formed p .0), few p)
+    (omega (arith, formed p .0), omega (arith, few p))
 
 cast-n : tie.Need-cast-n
 cast-n c = search needs
@@ -47,7 +49,7 @@ cast-n c = search needs
 zeros-requires : tie.Need-zeros-requires
 zeros-requires c κs =
     let p = c .before .before .before .before .before .before in
-    omega (arith, c .before .adpcm-count .ensures, count-le (p .args .bytes) (p .args .start .0) (p .args .want), p .pre .1 .1)
+    omega (arith, c .before .adpcm-count .ensures, count-le (p .args .bytes) (p .args .start .0) (p .args .want), p .pre .1 .1 .0)
 
 same-length-2 : tie.Need-same-length-2
 same-length-2 c = search needs

@@ -26,7 +26,7 @@ enum-known-decode-2 c = search needs
 play-adpcm-requires : tie.Need-play-adpcm-requires
 play-adpcm-requires c κs =
     let r = room-is (c .before .before .decode2 .given .1) (c .before .before .before .before .before .before .before .pre .0) in
-    (r .memory, ((r .reads, r .formed), r .want))
+    (r .memory, ((r .reads, r .formed), (r .want, r .few)))
 
 enum-known-decode-3 : tie.Need-enum-known-decode-3
 enum-known-decode-3 c = search needs

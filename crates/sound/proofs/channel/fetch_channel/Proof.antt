@@ -1,5 +1,5 @@
 -- `sound::fetch_channel` meets its contract: after each round, the samples so far are what the acts so far make. Assumes nothing.
-use Prim.Native.Nat.{ℕ, _-_, _^_, _≤_}
+use Prim.Native.Nat.{ℕ, _-_, _≤_}
 use mathlib.Core.Logic.{⊎-elim}
 use mathlib.Core.Path.{_≡_, refl, ap, sym, subst}
 use native.Mathlib.Omega.{arith}
@@ -39,7 +39,7 @@ ready c =
     (sym (c .spot-of .ensures)) (start c .pre .0)
 
 -- the samples of the row are few
-few : (c : tie.Start Inv-loop μ-loop) → length (headed (c .args .t7) (c .args .out .now)) ≤ 2 ^ 16
+few : (c : tie.Start Inv-loop μ-loop) → length (headed (c .args .t7) (c .args .out .now)) ≤ 4100
 few c = omega (arith, length-headed (c .args .t7) (c .args .out .now), c .pre .0 .long)
 
 array-read-out : tie.Need-array-read-out Inv-loop μ-loop
