@@ -25,7 +25,7 @@ fn listed(order: &[u32]) -> MixOrder
     }
 }
 
-// `list_order` with room lent for a word a mix, twice.
+// `list_order` with room lent for the order and for the distances, a word a mix each.
 fn list_order_in(
     mixes: &[u32],
     nm: usize,

@@ -10,6 +10,7 @@ use Rattle.desk_order.specs.Laws.{mix-order-fits}
 use Rattle.mixing.specs.Mixing.{runMixes, finalVolume, mixedDown}
 use Rattle.mixing.specs.Laws.{mixed-down-from}
 
+-- a list without room for a number
 nothing : (xs : List ℕ) → length xs ≤ 0 → [] ≡ xs
 nothing [] h = refl
 nothing (x ∷ xs) h = absurd (omega arith)

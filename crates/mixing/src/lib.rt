@@ -69,7 +69,7 @@ fn final_volume(buffers: &mut [f32], n: usize, mixes: &[u32], volumes: &[f32], n
     scale(&mut buffers[..k], v);
 }
 
-// `render_mixes` with room lent for a word a mix, twice, to find the order.
+// `render_mixes` with room lent for the order and for the distances, a word a mix each.
 fn render_mixes_in(
     buffers: &mut [f32],
     n: usize,
