@@ -1,9 +1,8 @@
 // What the calls on a renderer answer, in numbers. Where `number` is not 0 the rest is 0.
 ghost use mathlib.Core.Path.{_≡_};
-ghost use Rattle.renderer.specs.Answers.{lengthsSeen, replyLengthSeen, openNumber, orderSeen};
+ghost use Rattle.renderer.specs.Answers.{lengthsSeen, replyLengthSeen, orderSeen};
 ghost use Rattle.cabi.specs.Answers.{lengthsLeft, lengthIn, updateTold, renderTold, orderIn};
 use renderer::LengthsAnswer;
-use renderer::OpenAnswer;
 use renderer::OrderAnswer;
 use renderer::RenderAnswer;
 use renderer::ReplyLengthAnswer;
@@ -86,17 +85,6 @@ pub fn reply_length_told(a: ReplyLengthAnswer) -> JeqllunaLength
         ReplyLengthAnswer::Length(size) => JeqllunaLength { number: 0, size },
         ReplyLengthAnswer::Samples => JeqllunaLength { number: 1, size: 0 },
         ReplyLengthAnswer::Counts => JeqllunaLength { number: 2, size: 0 },
-    }
-}
-
-pub fn open_number(a: OpenAnswer) -> u32
-    ensures { λ r. ⌜ r ≡ openNumber a ⌝ }
-{
-    match a {
-        OpenAnswer::Opened => 0,
-        OpenAnswer::Samples => 1,
-        OpenAnswer::Counts => 2,
-        OpenAnswer::Lengths => 3,
     }
 }
 

@@ -54,14 +54,15 @@ pub extern "C" fn jeqlluna_open(
     ensures { λ r. ⌜ openLeft r (stateOf (now (words .exit)) (now (longs .exit)) (now (floats .exit)) (now (contexts .exit)) (now (history .exit)))
         ≡ openCall (parseOf (now (parameters .entry))) (stateOf (now (words .entry)) (now (longs .entry)) (now (floats .entry)) (now (contexts .entry)) (now (history .entry))) ⌝ }
 {
-    answers::open_number(renderer::open(
+    let answer = renderer::open(
         Params::parse(parameters),
         words,
         longs,
         floats,
         contexts,
         history,
-    ))
+    );
+    answer.number()
 }
 
 // An update; the reply goes to the front of its slice.

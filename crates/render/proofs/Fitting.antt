@@ -31,6 +31,14 @@ module _ {k : ℕ} {p : Params} (h : Fits k p) where
     heard = record { rows = omega (arith, length-replicate (6 * roomSamples k) zero32, h .samples) };
   }
 
+-- a slice that came back as long as it was lent has room for as much
+pub room-kept : {n a b : ℕ} → a ≡ b → n ≤ b → n ≤ a
+room-kept e h = omega arith
+
+-- and one of just that length has room for it
+pub length-kept : {n a b : ℕ} → a ≡ b → b ≡ n → n ≤ a
+length-kept e h = omega arith
+
 -- ---- which room
 
 -- no desk is larger than the last

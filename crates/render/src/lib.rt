@@ -10,7 +10,7 @@ ghost use Rattle.desk_render.specs.DeskRender.{Mixable};
 ghost use Rattle.ranges.specs.Ranges.{rangesOf};
 ghost use Rattle.turn.specs.Render.{renderOver};
 ghost use Rattle.render_turns.specs.Turns.{Playing};
-ghost use Rattle.render.specs.Render.{rendered, renderedOn, renderedBy, renderOf, framesOn};
+ghost use Rattle.render.specs.Render.{rendered, renderedBy, renderOf, framesOn};
 ghost use Rattle.render.specs.Rooms.{Blank, Rows};
 use params::Params;
 use turn::Render;
@@ -41,47 +41,8 @@ fn finish(
     desk_render::write_sink(p, words, floats, buffers, row, frames);
 }
 
-// A render into mix buffers that are lent, with rows that are lent. After the voices `src` has room for a row of the desk.
-fn render_on(
-    p: Params,
-    r: Render,
-    ranges: &[u64],
-    memory: &[u8],
-    words: &mut [u32],
-    longs: &mut [u64],
-    floats: &mut [f32],
-    contexts: &mut [u16],
-    history: &mut [f32],
-    buffers: &mut [f32],
-    src: &mut [f32],
-    out: &mut [f32],
-    frames: &mut [f32],
-) -> u32
-    requires { ⌜ Playing p (renderOver r (now ranges)) (now memory) 0 (stateOf (now words) (now longs) (now floats) (now contexts) (now history)) ⌝ ∗ ⌜ Rows p (now src) (now out) ⌝ ∗ ⌜ 2 * p .«sample_count» ≤ length (now frames) ⌝ }
-    ensures { λ rounds. ⌜ rendered (stateOf (now (words .exit)) (now (longs .exit)) (now (floats .exit)) (now (contexts .exit)) (now (history .exit))) rounds (now (frames .exit))
-        ≡ renderedOn p (renderOver r (now (ranges .entry))) (now (memory .entry)) (stateOf (now (words .entry)) (now (longs .entry)) (now (floats .entry)) (now (contexts .entry)) (now (history .entry))) (now (buffers .entry)) (now (frames .entry)) ⌝ }
-{
-    count_render(longs);
-    let rounds = render_turns::render_voices(
-        p,
-        r,
-        ranges,
-        memory,
-        words,
-        longs,
-        floats,
-        contexts,
-        history,
-        buffers,
-        src,
-        out,
-    );
-    let n = p.sample_count as usize;
-    finish(p, words, floats, buffers, &mut src[..n], frames);
-    rounds
-}
-
-// A render with room that is lent: mix buffers that are silent as far as it needs them, and rows.
+// A render with room that is lent: mix buffers that are silent as far as it needs them, and rows. After the voices `src` has room for a row
+// of the desk.
 fn render_lent(
     p: Params,
     ranges: &[u64],
@@ -101,9 +62,11 @@ fn render_lent(
     ensures { λ rounds. ⌜ rendered (stateOf (now (words .exit)) (now (longs .exit)) (now (floats .exit)) (now (contexts .exit)) (now (history .exit))) rounds (now (frames .exit))
         ≡ renderedBy p (rangesOf (now (ranges .entry))) (now (memory .entry)) (stateOf (now (words .entry)) (now (longs .entry)) (now (floats .entry)) (now (contexts .entry)) (now (history .entry))) (now (frames .entry)) ⌝ }
 {
-    let total = p.mix_buffers as usize * p.sample_count as usize;
+    let n = p.sample_count as usize;
+    let total = p.mix_buffers as usize * n;
     let r = render_of(p);
-    render_on(
+    count_render(longs);
+    let rounds = render_turns::render_voices(
         p,
         r,
         ranges,
@@ -116,8 +79,16 @@ fn render_lent(
         &mut buffers[..total],
         src,
         out,
+    );
+    finish(
+        p,
+        words,
+        floats,
+        &mut buffers[..total],
+        &mut src[..n],
         frames,
-    )
+    );
+    rounds
 }
 
 // A render: the rounds that its fetches took. The frames go to the front of a slice that has room for them.

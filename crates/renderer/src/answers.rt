@@ -1,4 +1,6 @@
 // What the calls answer. Beside each refusal stands its number.
+ghost use mathlib.Core.Path.{_≡_};
+ghost use Rattle.renderer.specs.Answers.{openNumber};
 use desk_order::MixOrder;
 
 // How long the five slices of a renderer's state must be.
@@ -35,6 +37,20 @@ pub enum OpenAnswer {
     Counts,
     // 3: the lengths of the state's slices
     Lengths,
+}
+
+impl OpenAnswer {
+    // The refusal's number, or 0.
+    pub fn number(self) -> u32
+        ensures { λ r. ⌜ r ≡ openNumber «self» ⌝ }
+    {
+        match self {
+            OpenAnswer::Opened => 0,
+            OpenAnswer::Samples => 1,
+            OpenAnswer::Counts => 2,
+            OpenAnswer::Lengths => 3,
+        }
+    }
 }
 
 pub enum UpdateAnswer {

@@ -2,7 +2,7 @@
 use mathlib.Core.Path.{_≡_, refl, ap, sym, _∙_}
 use mathlib.Core.Bool.{Bool, true, false, cond}
 use mathlib.Core.List.{List, [], _∷_}
-use Prim.Native.Nat.{ℕ, suc, _≤_}
+use Prim.Native.Nat.{ℕ, _≤_}
 use native.Mathlib.Omega.{arith}
 use borrow.Author.Tests.{leb-true}
 use lib.Dec.{leb}
@@ -15,9 +15,7 @@ use Rattle.state.specs.State.{State, paramsIn}
 use Rattle.whole.specs.Whole.{wholeOf}
 use Rattle.calls.specs.Calls.{UpdateOutcome, updateLeft, updateDone, updateCall, RenderOutcome, renderCall}
 use Rattle.renderer.specs.declared.answers.UpdateAnswer.{UpdateAnswer}
-use Rattle.renderer.specs.declared.answers.UpdateAnswer.the-variants as of-update
 use Rattle.renderer.specs.declared.answers.RenderAnswer.{RenderAnswer}
-use Rattle.renderer.specs.declared.answers.RenderAnswer.the-variants as of-render
 use Rattle.renderer.specs.Answers.{updateNumber, updateSize, updateSeen, renderNumber, renderSeen}
 use Rattle.session.specs.declared.input.Call.{Call}
 use Rattle.session.specs.declared.input.Call.the-variants.{Render, Update, Nothing}
@@ -26,65 +24,44 @@ use Rattle.session.specs.Lines.{framesLine, replyLine, refusedLine}
 use Rattle.session_calls.specs.Steps.{Held, held, lineOf, rendered, renderStep, updated, updateStep, callStep}
 use Rattle.session_calls.specs.Steps.{Written, written, writtenOn}
 
+-- ---- a line that was written for the number n, where m is the number of what the renderer answered
+
+pub line-is : (n : ℕ) (out line : List ℕ) {m k : ℕ} {t : Text} → m ≡ n → k ≡ n → t ≡ append (text out 0) (lineOf n line)
+    → (k ≡ m) × (t ≡ append (text out 0) (lineOf m line))
+line-is n out line e ek l = (ek ∙ sym e, l ∙ ap (λ (j : ℕ). append (text out 0) (lineOf j line)) (sym e))
+
 -- ---- a step by what the renderer answered, a, and the line that was written
 
-module _ (st : State) (m : List ℕ) (frames : List Float) (reply out : List ℕ) {a : RenderAnswer} {u : State} {f : List Float}
-    {x : List ℕ} {y : ℕ} (seen : renderSeen a u f ≡ renderCall st (range 0x10000 0 (length m) ∷ []) m frames) where
-  pub render-ran : {rounds : ℕ} → a ≡ of-render.Rendered rounds → text x y ≡ append (text out 0) (framesLine f)
-      → written 0 (held u f reply) (text x y) ≡ writtenOn out (renderStep (held st frames reply) m)
-  unfolding renderStep
-  render-ran e l =
-      ap (written 0 (held u f reply)) l
-      ∙ (λ i. writtenOn out (rendered (renderSeen (sym e i) u f) reply))
-      ∙ ap (λ (o : RenderOutcome). writtenOn out (rendered o reply)) seen
+pub render-ran : (st : State) (m : List ℕ) (frames : List Float) (reply out : List ℕ) (a : RenderAnswer) {u : State} {f : List Float}
+    → renderSeen a u f ≡ renderCall st (range 0x10000 0 (length m) ∷ []) m frames
+    → {k : ℕ} {t : Text} → k ≡ renderNumber a → t ≡ append (text out 0) (lineOf (renderNumber a) (framesLine f))
+    → written k (held u f reply) t ≡ writtenOn out (renderStep (held st frames reply) m)
+unfolding renderStep
+render-ran st m frames reply out a {u} {f} seen ek l =
+    (λ i. written (ek i) (held u f reply) (l i)) ∙ ap (λ (o : RenderOutcome). writtenOn out (rendered o reply)) seen
 
-  pub render-refused : (n : ℕ) {b : RenderAnswer} {k : ℕ} → a ≡ b → renderNumber b ≡ suc n → k ≡ suc n
-      → text x y ≡ append (text out 0) (refusedLine (suc n))
-      → written k (held u f reply) (text x y) ≡ writtenOn out (renderStep (held st frames reply) m)
-  unfolding renderStep
-  render-refused n e eb ek l =
-      let en : renderNumber a ≡ suc n = ap renderNumber e ∙ eb in
-      (λ i. written (ek i) (held u f reply) (l i))
-      ∙ (λ i. written (sym en i) (held u f reply) (append (text out 0) (lineOf (sym en i) (framesLine f))))
-      ∙ ap (λ (o : RenderOutcome). writtenOn out (rendered o reply)) seen
-
--- a reply is within the slice that was lent for it
-by-answers : (st : State) (expected : ℕ) (input reply : List ℕ) (w f : Bool) {size : ℕ} {u : State} {y : List ℕ}
-    → leb (replyLength (paramsIn st) expected) (length reply) ≡ f
-    → updateLeft 0 size u y ≡ cond w (cond f (updateDone st expected input reply) (updateLeft 6 0 st reply)) (updateLeft 4 0 st reply)
-    → size ≤ length reply
-unfolding updateDone
-by-answers st expected input reply true true ef e =
-    omega (arith, ap (λ (x : UpdateOutcome). x .size) e, leb-true (replyLength (paramsIn st) expected) (length reply) ef)
-by-answers st expected input reply true false ef e = absurd (omega (arith, ap (λ (x : UpdateOutcome). x .number) e))
-by-answers st expected input reply false f ef e = absurd (omega (arith, ap (λ (x : UpdateOutcome). x .number) e))
-
-module _ (st : State) (expected : ℕ) (input : List ℕ) (frames : List Float) (reply out : List ℕ) {a : UpdateAnswer} {u : State} {y : List ℕ}
+module _ (st : State) (expected : ℕ) (input reply : List ℕ) (a : UpdateAnswer) {u : State} {y : List ℕ}
     (seen : updateSeen a u y ≡ updateCall st expected input reply) where
-  module _ {x : List ℕ} {z : ℕ} where
-    pub update-ran : {size : ℕ} → a ≡ of-update.Updated size → text x z ≡ append (text out 0) (replyLine (take size y))
-        → written 0 (held u frames y) (text x z) ≡ writtenOn out (updateStep (held st frames reply) expected input)
-    unfolding updateStep
-    update-ran e l =
-        ap (written 0 (held u frames y)) l
-        ∙ (λ i. writtenOn out (updated (updateSeen (sym e i) u y) frames))
-        ∙ ap (λ (o : UpdateOutcome). writtenOn out (updated o frames)) seen
+  pub update-ran : (frames : List Float) (out : List ℕ) {k : ℕ} {t : Text} → k ≡ updateNumber a
+      → t ≡ append (text out 0) (lineOf (updateNumber a) (replyLine (take (updateSize a) y)))
+      → written k (held u frames y) t ≡ writtenOn out (updateStep (held st frames reply) expected input)
+  unfolding updateStep
+  update-ran frames out ek l =
+      (λ i. written (ek i) (held u frames y) (l i)) ∙ ap (λ (o : UpdateOutcome). writtenOn out (updated o frames)) seen
 
-    pub update-refused : (n : ℕ) {b : UpdateAnswer} {k : ℕ} → a ≡ b → updateNumber b ≡ suc n → k ≡ suc n
-        → text x z ≡ append (text out 0) (refusedLine (suc n))
-        → written k (held u frames y) (text x z) ≡ writtenOn out (updateStep (held st frames reply) expected input)
-    unfolding updateStep
-    update-refused n e eb ek l =
-        let en : updateNumber a ≡ suc n = ap updateNumber e ∙ eb in
-        (λ i. written (ek i) (held u frames y) (l i))
-        ∙ (λ i. written (sym en i) (held u frames y) (append (text out 0) (lineOf (sym en i) (replyLine (take (updateSize a) y)))))
-        ∙ ap (λ (o : UpdateOutcome). writtenOn out (updated o frames)) seen
+  by-questions : (w f : Bool) → leb (replyLength (paramsIn st) expected) (length reply) ≡ f
+      → updateSeen a u y ≡ cond w (cond f (updateDone st expected input reply) (updateLeft 6 0 st reply)) (updateLeft 4 0 st reply)
+      → updateSize a ≤ length reply
+  unfolding updateDone
+  by-questions true true ef e =
+      omega (arith, ap (λ (x : UpdateOutcome). x .size) e, leb-true (replyLength (paramsIn st) expected) (length reply) ef)
+  by-questions true false ef e = omega (arith, ap (λ (x : UpdateOutcome). x .size) e)
+  by-questions false f ef e = omega (arith, ap (λ (x : UpdateOutcome). x .size) e)
 
-  pub reply-inside : {size : ℕ} → a ≡ of-update.Updated size → size ≤ length reply
+  -- a reply is within the slice that was lent for it
+  pub reply-inside : updateSize a ≤ length reply
   unfolding updateCall
-  reply-inside e =
-      by-answers st expected input reply (wholeOf st) (leb (replyLength (paramsIn st) expected) (length reply)) refl
-      ((λ i. updateSeen (sym e i) u y) ∙ seen)
+  reply-inside = by-questions (wholeOf st) (leb (replyLength (paramsIn st) expected) (length reply)) refl seen
 
 -- ---- a step by the call, c. A render is lent no reply slice, and an update no frames: what the call before left stays.
 

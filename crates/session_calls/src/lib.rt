@@ -2,11 +2,12 @@
 ghost use mathlib.Core.Path.{_≡_};
 ghost use mathlib.Core.List.{[]};
 ghost use Prim.Native.Nat.{_≤_};
-ghost use lib.ListN.{length};
+ghost use lib.ListN.{length, take};
 ghost use Rattle.state.specs.State.{stateOf};
+ghost use Rattle.renderer.specs.Answers.{updateNumber, updateSize, renderNumber};
 ghost use Rattle.session.specs.Text.{text, append};
-ghost use Rattle.session.specs.Lines.{refusedLine};
-ghost use Rattle.session_calls.specs.Steps.{held, written, writtenOn, renderStep, updateStep, callStep};
+ghost use Rattle.session.specs.Lines.{framesLine, replyLine, refusedLine};
+ghost use Rattle.session_calls.specs.Steps.{held, lineOf, written, writtenOn, renderStep, updateStep, callStep};
 use renderer::RenderAnswer;
 use renderer::UpdateAnswer;
 use session::Call;
@@ -30,7 +31,27 @@ fn refused(number: u32, out: &mut [u8]) -> Line
     Line { number, size }
 }
 
-// Renders, and writes the frames' line or the refusal's.
+// Writes the frames' line or the refusal's, by what the render answered.
+fn render_line(answer: RenderAnswer, frames: &[f32], out: &mut [u8]) -> Line
+    requires { ⌜ length (now frames) ≤ 128 ⌝ }
+    requires { ⌜ 65536 ≤ length (now out) ⌝ }
+    ensures { λ r. ⌜ (r .number ≡ renderNumber answer) × (text (now (out .exit)) (r .size)
+        ≡ append (text (now (out .entry)) 0) (lineOf (renderNumber answer) (framesLine (now (frames .entry))))) ⌝ }
+    ensures { λ r. ⌜ r .size ≤ length (now (out .exit)) ⌝ }
+{
+    match answer {
+        RenderAnswer::Rendered(_) => {
+            let size = session::frames_line(frames, out);
+            Line { number: 0, size }
+        }
+        RenderAnswer::NotWhole => refused(4, out),
+        RenderAnswer::Ranges => refused(13, out),
+        RenderAnswer::FarMemory => refused(5, out),
+        RenderAnswer::ShortFrames => refused(7, out),
+    }
+}
+
+// Renders, and writes the call's line.
 fn run_render(
     memory: &[u8],
     words: &mut [u32],
@@ -64,19 +85,28 @@ fn run_render(
         memory,
         frames,
     );
+    render_line(answer, frames, out)
+}
+
+// Writes the reply's line or the refusal's, by what the update answered. The reply is at the front of its slice.
+fn update_line(answer: UpdateAnswer, reply: &[u8], out: &mut [u8]) -> Line
+    requires { ⌜ (updateSize answer ≤ length (now reply)) × (length (now reply) ≤ 16384) ⌝ }
+    requires { ⌜ 65536 ≤ length (now out) ⌝ }
+    ensures { λ r. ⌜ (r .number ≡ updateNumber answer) × (text (now (out .exit)) (r .size)
+        ≡ append (text (now (out .entry)) 0) (lineOf (updateNumber answer) (replyLine (take (updateSize answer) (now (reply .entry)))))) ⌝ }
+    ensures { λ r. ⌜ r .size ≤ length (now (out .exit)) ⌝ }
+{
     match answer {
-        RenderAnswer::Rendered(_) => {
-            let size = session::frames_line(frames, out);
+        UpdateAnswer::Updated(n) => {
+            let size = session::reply_line(&reply[..n], out);
             Line { number: 0, size }
         }
-        RenderAnswer::NotWhole => refused(4, out),
-        RenderAnswer::Ranges => refused(13, out),
-        RenderAnswer::FarMemory => refused(5, out),
-        RenderAnswer::ShortFrames => refused(7, out),
+        UpdateAnswer::NotWhole => refused(4, out),
+        UpdateAnswer::ShortReply => refused(6, out),
     }
 }
 
-// Updates, and writes the reply's line or the refusal's.
+// Updates, and writes the call's line.
 fn run_update(
     expected: u32,
     input: &[u8],
@@ -110,14 +140,7 @@ fn run_update(
         input,
         reply,
     );
-    match answer {
-        UpdateAnswer::Updated(n) => {
-            let size = session::reply_line(&reply[..n], out);
-            Line { number: 0, size }
-        }
-        UpdateAnswer::NotWhole => refused(4, out),
-        UpdateAnswer::ShortReply => refused(6, out),
-    }
+    update_line(answer, reply, out)
 }
 
 // The call at the front of d. Its input, if it has one, is behind nine bytes.

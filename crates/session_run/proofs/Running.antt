@@ -1,10 +1,9 @@
 -- A run over the calls: before each, the lines that are still to be printed are those of the calls that are left. Assumes nothing.
-use mathlib.Core.Path.{_≡_, ap, sym, _∙_}
-use mathlib.Core.Bool.{Bool, true, false, not}
+use mathlib.Core.Path.{_≡_, refl, ap, sym, subst, _∙_}
+use mathlib.Core.Bool.{Bool, true, false, cond}
 use mathlib.Core.List.{List, [], _∷_}
 use Prim.Native.Nat.{ℕ, suc, _+_, _-_, _≤_, _<_}
 use native.Mathlib.Omega.{arith}
-use borrow.Author.Tests.{not-true, not-false}
 use lib.ListN.{length, drop, length-drop}
 use lib.Seq.{drop-drop}
 use Rattle.fields.specs.Fields.{restOf}
@@ -30,12 +29,26 @@ run-begin d {h = h} ek en small e = record {
   same = ap (λ (m : ℕ). drop m (linesOf d)) ek ∙ e ∙ ap (λ (m : ℕ). callLines m (callsOf d) (memoryOf d) h) (sym en);
 }
 
+-- the calls that are left, as they were counted
+pub run-on : {d : List ℕ} {k at left n : ℕ} {h : Held} → Running d k at left h → n ≡ left → Running d k at n h
+run-on {d} {k} {at} {h = h} r e = subst (λ (m : ℕ). Running d k at m h) (sym e) r
+
 pub run-end : {d : List ℕ} {k at left : ℕ} {h : Held} → Running d k at left h → left ≤ 0 → k ≡ length (linesOf d)
 unfolding callLines
 run-end {d} {k} {at} {left} {h} r none =
     let z : left ≡ 0 = omega arith in
     let e : drop k (linesOf d) ≡ [] = r .same ∙ ap (λ (n : ℕ). callLines n (drop at (callsOf d)) (memoryOf d) h) z in
     omega (arith, length-drop k (linesOf d), ap length e, r .near)
+
+-- a run that ends has no calls left
+onward-left : (going : Bool) (n : ℕ) (s m : List ℕ) (h : Held) → onward going (callLines n s m h) ≡ callLines (cond going n 0) s m h
+unfolding callLines
+onward-left true n s m h = refl
+onward-left false n s m h = refl
+
+pub left-fewer : (going : Bool) (n : ℕ) → cond going n 0 ≤ n
+left-fewer true n = omega arith
+left-fewer false n = omega arith
 
 -- the lines behind the next call, by what it gives to the run
 abbrev following : List ℕ → ℕ → ℕ → Turned → List (List ℕ)
@@ -70,22 +83,14 @@ module _ {d : List ℕ} {k at left : ℕ} {h : Held} (r : Running d k at left h)
     unfolding restOf
     turn-near = omega (arith, turn-inside, length-drop (callsAt d) d)
 
-    pub turn-more : not going ≡ false → Running d m (at + size) (left - 1) u
-    turn-more g =
-        let more : going ≡ true = not-false going g in
-        record {
-          inside = turn-inside;
-          count = omega (arith, em, r .count);
-          near = omega (arith, em, turn-line .there);
-          same = ap (λ (n : ℕ). drop n (linesOf d)) em
-              ∙ rest
-              ∙ ap (λ (t : Bool). onward t (callLines (left - 1) (drop size (drop at (callsOf d))) (memoryOf d) u)) more
-              ∙ ap (λ (s : List ℕ). callLines (left - 1) s (memoryOf d) u) (drop-drop size at (callsOf d));
-        }
-
-    pub turn-ends : not going ≡ true → m ≡ length (linesOf d)
-    turn-ends g =
-        let none : going ≡ false = not-true going g in
-        let e : drop (k + 1) (linesOf d) ≡ [] =
-        rest ∙ ap (λ (t : Bool). onward t (callLines (left - 1) (drop size (drop at (callsOf d))) (memoryOf d) u)) none in
-        omega (arith, em, length-drop (k + 1) (linesOf d), ap length e, turn-line .there)
+    -- the calls that are left: none where the run ends
+    pub turn-more : Running d m (at + size) (cond going (left - 1) 0) u
+    turn-more = record {
+      inside = turn-inside;
+      count = omega (arith, em, r .count, left-fewer going (left - 1));
+      near = omega (arith, em, turn-line .there);
+      same = ap (λ (n : ℕ). drop n (linesOf d)) em
+          ∙ rest
+          ∙ onward-left going (left - 1) (drop size (drop at (callsOf d))) (memoryOf d) u
+          ∙ ap (λ (s : List ℕ). callLines (cond going (left - 1) 0) s (memoryOf d) u) (drop-drop size at (callsOf d));
+    }

@@ -13,7 +13,6 @@ ghost use Rattle.session_run.specs.Lines.{room, openLines, linesOf};
 ghost use Rattle.session_run.specs.Room.{Fits};
 use params::Params;
 use renderer::Lengths;
-use renderer::OpenAnswer;
 
 // Room for a state's words.
 fn words() -> [u32; 1390]
@@ -122,22 +121,21 @@ fn open(
         (held (stateOf (now words) (now longs) (now floats) (now contexts) (now history)) (now frames) (now reply)) ⌝ }
     ensures { λ _. ⌜ now (printed .exit) ≡ length (linesOf (now (input .entry))) ⌝ }
 {
-    let opened = renderer::open(p, words, longs, floats, contexts, history);
-    match opened {
-        OpenAnswer::Opened => crate::turns::run(
-            input,
-            printed,
-            words,
-            longs,
-            floats,
-            contexts,
-            history,
-            frames,
-            reply,
-            out,
-        ),
-        OpenAnswer::Samples => crate::turns::refuse(input, 1, printed, out),
-        OpenAnswer::Counts => crate::turns::refuse(input, 2, printed, out),
-        OpenAnswer::Lengths => crate::turns::refuse(input, 3, printed, out),
+    let number = renderer::open(p, words, longs, floats, contexts, history).number();
+    if number > 0 {
+        crate::turns::refuse(input, number, printed, out);
+        return;
     }
+    crate::turns::run(
+        input,
+        printed,
+        words,
+        longs,
+        floats,
+        contexts,
+        history,
+        frames,
+        reply,
+        out,
+    );
 }

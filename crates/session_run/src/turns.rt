@@ -1,7 +1,8 @@
 // The calls of a session, one after the other. Each line is printed when its call has run; a refusal ends the run.
 ghost use mathlib.Core.Path.{_≡_};
+ghost use mathlib.Core.Bool.{cond};
 ghost use mathlib.Core.List.{[], _∷_};
-ghost use Prim.Native.Nat.{_+_, _≤_, _<_};
+ghost use Prim.Native.Nat.{_+_, _-_, _≤_, _<_};
 ghost use lib.ListN.{length, take, drop};
 ghost use Rattle.state.specs.State.{stateOf};
 ghost use Rattle.session.specs.Input.{callCount, callsOf, memoryOf};
@@ -87,6 +88,17 @@ fn turn(
     }
 }
 
+// How many calls are left behind one, by whether the run goes on.
+fn left_behind(left: u32, going: bool) -> u32
+    requires { ⌜ 0 < left ⌝ }
+    ensures { λ r. ⌜ r ≡ cond going (left - 1) 0 ⌝ }
+{
+    if going {
+        return left - 1;
+    }
+    0
+}
+
 // Runs the calls until one is refused.
 pub fn run(
     input: &[u8],
@@ -122,10 +134,7 @@ pub fn run(
             reply,
             out,
         );
-        if !after.going {
-            return;
-        }
         at += after.size;
-        left -= 1;
+        left = left_behind(left, after.going);
     }
 }

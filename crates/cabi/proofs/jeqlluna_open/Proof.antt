@@ -5,8 +5,9 @@ use Rattle.cabi.proofs.jeqlluna_open.Tie as tie
 
 returns : tie.Need-returns
 returns c =
-    rw (c .open-number .ensures, ← (c .before .before .before .before .before .before .before .before .before .before .before .before .before .before .before .before .before .parse .ensures))
-    (c .before .before .before .before .before .before .before .before .before .before .before .«open» .ensures)
+    let at-open = c .before .before .before .before .before .before .before .before .before .before .before in
+    let at-parse = at-open .before .before .before .before .before .before in
+    rw (c .number .ensures, ← (at-parse .parse .ensures)) (at-open .«open» .ensures)
 
 pub jeqlluna-open-spec : {M : Type 1} → statement M
 jeqlluna-open-spec =

@@ -4,21 +4,29 @@ use Rattle.session_calls.proofs.Steps.{call-render, call-update, call-n
 use Rattle.session_calls.proofs.run_call.Statement.{statement}
 use Rattle.session_calls.proofs.run_call.Tie as tie
 
+-- where a render was run
+abbrev rendered : tie.After-slice-known15 → tie.After-run-render
+rendered c =
+    let toward = c .before .before .before .before .before .before .before in
+    toward .before .before .before .before .before .before .before
+
+-- where an update was run
+abbrev updated : tie.After-slice-known22 → tie.After-run-update
+updated c =
+    let toward = c .before .before .before .before .before .before .before in
+    toward .before .before .before .before .before .before .before
+
 returns : tie.Need-returns
 returns c =
-    let toward-at-run-render = c .before .before .before .before .before .before .before in
-    let at-run-render = toward-at-run-render .before .before .before .before .before .before .before in
-    let at-enum-told = at-run-render .before .before .before .before .before .before .before .before in
-    let ran = at-run-render .run-render .ensures in
+    let at-enum-told = rendered c .before .before .before .before .before .before .before .before in
+    let ran = rendered c .run-render .ensures in
     (call-render _ _ _ _ _ _ (at-enum-told .enum-told .given .1) (ran .0), ran .1)
 
 returns-2 : tie.Need-returns-2
 returns-2 c =
-    let toward-at-run-update = c .before .before .before .before .before .before .before in
-    let at-run-update = toward-at-run-update .before .before .before .before .before .before .before in
-    let at-section = at-run-update .before .before .before .before .before .before .before .before in
+    let at-section = updated c .before .before .before .before .before .before .before .before in
     let at-call = at-section .before .before in
-    let ran = at-run-update .run-update .ensures in
+    let ran = updated c .run-update .ensures in
     (call-update _ _ _ _ _ _ (at-call .call .given .1) (at-section .section .ensures) (ran .0), ran .1)
 
 returns-3 : tie.Need-returns-3
@@ -39,21 +47,21 @@ run-call-spec =
     (λ c κs. search needs)
     (λ c. search needs)
     (λ c κs. search needs)
-    (λ c. search needs)
-    (λ c. search needs)
-    (λ c. search needs)
-    (λ c. search needs)
-    (λ c. search needs)
-    (λ c. search needs)
-    (λ c. search needs)
+    (λ c. rendered c .run-render .kept .1 .0)
+    (λ c. rendered c .run-render .kept .1 .1 .0)
+    (λ c. rendered c .run-render .kept .1 .1 .1 .0)
+    (λ c. rendered c .run-render .kept .1 .1 .1 .1 .0)
+    (λ c. rendered c .run-render .kept .1 .1 .1 .1 .1 .0)
+    (λ c. rendered c .run-render .kept .1 .1 .1 .1 .1 .1 .0)
+    (λ c. rendered c .run-render .kept .1 .1 .1 .1 .1 .1 .1 .0)
     returns
-    (λ c. search needs)
-    (λ c. search needs)
-    (λ c. search needs)
-    (λ c. search needs)
-    (λ c. search needs)
-    (λ c. search needs)
-    (λ c. search needs)
+    (λ c. updated c .run-update .kept .1 .1 .0)
+    (λ c. updated c .run-update .kept .1 .1 .1 .0)
+    (λ c. updated c .run-update .kept .1 .1 .1 .1 .0)
+    (λ c. updated c .run-update .kept .1 .1 .1 .1 .1 .0)
+    (λ c. updated c .run-update .kept .1 .1 .1 .1 .1 .1 .0)
+    (λ c. updated c .run-update .kept .1 .1 .1 .1 .1 .1 .1 .0)
+    (λ c. updated c .run-update .kept .1 .1 .1 .1 .1 .1 .1 .1 .0)
     returns-2
     (λ c. search needs)
     returns-3)

@@ -1,7 +1,7 @@
 -- The cycle of calls {render_from} meets its contract: in every room the render is the same, and the last is always enough. Assumes nothing.
 use Prim.Native.Nat.{ℕ, _-_, _<_}
 use native.Mathlib.Omega.{arith}
-use borrow.Author.Needs.{needs}
+use mir.Facts.{fits-below}
 use borrow.Fn.Kinds.{In}
 use borrow.Fn.PlainCycle.{Measures, is, falls, and}
 use Rattle.render.proofs.Fitting.{floats-upto, fits-last, fits-at}
@@ -46,10 +46,14 @@ pub +render-from-spec : {M : Type 1} → statement M
     )
     (from-at t)
     from.Post
-    (λ c. search needs)
-    (λ c. search needs)
-    (λ c. omega (arith, floats-upto (c .before .before .before .before .before .before .before .before .before .before .pre .1 .0)))
-    (λ c κs. let pre = c .before .before .before .before .before .before .before .before .before .before .pre .1 in (floats-upto (pre .0), pre .0 .desk .allowed .samples))
+    (λ c. fits-below tt (c .before .before .before .before .before .before .before .before .before .pre .1 .0 .desk .allowed .mix-buffers))
+    (λ c.
+    let pre = c .before .before .before .before .before .before .before .before .before .before .pre .1 in
+    fits-below tt (pre .0 .desk .allowed .samples))
+    (λ c. fits-below tt (floats-upto (c .before .before .before .before .before .before .before .before .before .before .pre .1 .0)))
+    (λ c κs.
+    let pre = c .before .before .before .before .before .before .before .before .before .before .pre .1 in
+    (floats-upto (pre .0), pre .0 .desk .allowed .samples))
     (λ c κs.
     let asked = c .before .before .before .before .before .before .before .before in
     let pre = asked .before .before .before .before .before .before .before .before .before .before .before .pre .1 in
@@ -96,8 +100,12 @@ pub +render-from-spec : {M : Type 1} → statement M
     (λ c. c .before .before .before .before .before .before .before .before .before .before .before .before .render-24576 .ensures)
     (λ c. omega (arith, c .before .enough .ensures .1 (c .if1 .left)))
     (λ c κs.
-    let start = c .before .before .before .before .before .before .before .before .before .before .before .before .before .before .before .before .before .before in
-    (omega (arith, start .pre .0, c .before .before .before .before .before .before .before .enough .ensures .1 (c .before .before .before .before .before .before .if1 .left)), start .pre .1))
+    let start =
+    c .before .before .before .before .before .before .before .before .before .before .before .before
+    .before .before .before .before .before .before in
+    let few = c .before .before .before .before .before .before .before .enough .ensures .1
+    (c .before .before .before .before .before .before .if1 .left) in
+    (omega (arith, start .pre .0, few), start .pre .1))
     (λ c. c .before .before .before .before .before .before .before .before .before .before .before .before .render-from .kept .1 .1 .1 .1 .0)
     (λ c. c .before .before .before .before .before .before .before .before .before .before .before .before .render-from .kept .1 .1 .1 .1 .1 .0)
     (λ c. c .before .before .before .before .before .before .before .before .before .before .before .before .render-from .kept .1 .1 .1 .1 .1 .1 .0)

@@ -1,11 +1,12 @@
 -- `session_run::run` prints the lines of the calls up to the first refusal, one for each, and ends: `left` falls. Assumes nothing.
 use mathlib.Core.Path.{_≡_, refl, _∙_}
+use Prim.Native.Nat.{_-_}
 use native.Mathlib.Omega.{arith}
 use borrow.Author.Needs.{needs}
 use lib.ListN.{length}
 use Rattle.state.specs.State.{stateOf}
 use Rattle.session_calls.specs.Steps.{held}
-use Rattle.session_run.proofs.Running.{Running, run-begin, run-end, turn-line, turn-near, turn-more, turn-ends}
+use Rattle.session_run.proofs.Running.{Running, run-begin, run-end, turn-line, turn-near, turn-more, left-fewer, run-on}
 use Rattle.session_run.proofs.turns.run.Statement.{statement}
 use Rattle.session_run.proofs.turns.run.Tie as tie
 
@@ -40,41 +41,35 @@ turn-requires c κs =
       (omega (arith, inv .0 .count, some), turn-line (inv .0) some),
     )
 
-returns : tie.Need-returns Inv-loop μ-loop
-returns c =
-    let toward-at-turn = c .before .before .before .before .before .before .before .before .before in
-    let at-turn = toward-at-turn .before .before .before .before .before .before .before .before .before in
-    let in-loop = at-turn .before .before .before .before .before .before .before .before .before .before in
-    let at-loop = in-loop .before in
-    let inv = at-loop .loop .inv .0 in
-    let some = in-loop .loop-test .taken in
-    let did = at-turn .turn .ensures in
-    turn-ends inv some (did .0) (did .1) (c .if1 .taken)
+-- where a turn was run
+abbrev turned : tie.After-struct-known Inv-loop μ-loop → tie.After-turn Inv-loop μ-loop
+turned c =
+    let toward = c .before .before .before .before .before .before .before .before in
+    toward .before .before .before .before .before .before .before .before .before
 
 add-at : tie.Need-add-at Inv-loop μ-loop
 add-at c =
-    let toward-at-turn = c .before .before .before .before .before .before .before .before .before in
-    let at-turn = toward-at-turn .before .before .before .before .before .before .before .before .before .before in
-    let in-loop = at-turn .before .before .before .before .before .before .before .before .before .before in
+    let in-loop = turned c .before .before .before .before .before .before .before .before .before .before in
     let at-loop = in-loop .before in
-    let inv = at-loop .loop .inv .0 in
-    let some = in-loop .loop-test .taken in
-    let did = at-turn .turn .ensures in
+    let did = turned c .turn .ensures in
     let start = at-loop .before .before .before .before .before .before .before .before .before .before .before in
-    omega (arith, turn-near inv some (did .0) (did .1), start .good .0 .0)
+    omega (arith, turn-near (at-loop .loop .inv .0) (in-loop .loop-test .taken) (did .0) (did .1), start .good .0 .0)
+
+loop-less : tie.Need-loop-less Inv-loop μ-loop
+loop-less c =
+    let at-turn = turned (c .before) in
+    let in-loop = at-turn .before .before .before .before .before .before .before .before .before .before in
+    let fewer = left-fewer (at-turn .turn .result .going) (in-loop .before .loop .left - 1) in
+    omega (arith, c .left-behind .ensures, fewer, in-loop .loop-test .taken)
 
 loop-again : tie.Need-loop-again Inv-loop μ-loop
 loop-again c =
-    let toward-at-turn = c .before .before .before .before .before .before .before .before .before in
-    let at-turn = toward-at-turn .before .before .before .before .before .before .before .before .before .before in
+    let at-turn = turned (c .before) in
     let in-loop = at-turn .before .before .before .before .before .before .before .before .before .before in
-    let at-loop = in-loop .before in
-    let inv = at-loop .loop .inv .0 in
-    let some = in-loop .loop-test .taken in
+    let lens = in-loop .before .loop .inv in
     let did = at-turn .turn .ensures in
-    let lens = at-loop .loop .inv in
     let kept = at-turn .turn .kept .1 .1 .1 in (
-      turn-more inv some (did .0) (did .1) (c .before .if1 .left),
+      run-on (turn-more (lens .0) (in-loop .loop-test .taken) (did .0) (did .1)) (c .left-behind .ensures),
       kept .0 ∙ lens .1,
       kept .1 .0 ∙ lens .2,
       kept .1 .1 .0 ∙ lens .3,
@@ -85,8 +80,8 @@ loop-again c =
       kept .1 .1 .1 .1 .1 .1 .1 .0 ∙ lens .8,
     )
 
-returns-2 : tie.Need-returns-2 Inv-loop μ-loop
-returns-2 c = run-end (c .before .loop .inv .0) (c .loop-test .left)
+returns : tie.Need-returns Inv-loop μ-loop
+returns c = run-end (c .before .loop .inv .0) (c .loop-test .left)
 
 pub run-spec : {M : Type 1} → statement M
 run-spec =
@@ -97,25 +92,16 @@ run-spec =
     (λ c κs. search needs)
     loop-holds
     turn-requires
-    (λ c. search needs)
-    (λ c. search needs)
-    (λ c. search needs)
-    (λ c. search needs)
-    (λ c. search needs)
-    (λ c. search needs)
-    (λ c. search needs)
-    (λ c. search needs)
-    returns
     add-at
-    (λ c. search needs)
-    (λ c. search needs)
+    (λ c κs. search needs)
+    loop-less
     loop-again
-    (λ c. search needs)
-    (λ c. search needs)
-    (λ c. search needs)
-    (λ c. search needs)
-    (λ c. search needs)
-    (λ c. search needs)
-    (λ c. search needs)
-    (λ c. search needs)
-    returns-2)
+    (λ c. c .before .loop .inv .1)
+    (λ c. c .before .loop .inv .2)
+    (λ c. c .before .loop .inv .3)
+    (λ c. c .before .loop .inv .4)
+    (λ c. c .before .loop .inv .5)
+    (λ c. c .before .loop .inv .6)
+    (λ c. c .before .loop .inv .7)
+    (λ c. c .before .loop .inv .8)
+    returns)

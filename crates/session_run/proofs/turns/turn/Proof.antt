@@ -20,20 +20,23 @@ print-line-requires c κs =
     in
     (start .pre .1 .0, (ran .1, due (start .pre .1 .1)))
 
+-- where the call was run
+abbrev ran : tie.After-struct-known → tie.After-run-call
+ran c =
+    let toward = c .before .before .before .before .before .before .before .before .before .before in
+    toward .before .before .before .before .before .before .before .before .before .before .before
+
 returns : tie.Need-returns
 returns c =
-    let at-print-line = c .before .before in
-    let toward-at-run-call = at-print-line .before .before .before .before .before .before .before .before .before in
-    let at-run-call = toward-at-run-call .before .before .before .before .before .before .before .before .before .before in
-    let at-memory = at-run-call .before .before .before .before .before .before .before .before .before in
+    let at-memory = ran c .before .before .before .before .before .before .before .before .before in
     let at-first-call = at-memory .before in
     let at-rest = at-first-call .before in
     let at-calls = at-rest .before in
     let done =
     turn-done _ _ (at-calls .calls .ensures) (at-rest .rest .ensures) (at-memory .memory .ensures) (at-first-call .first-call .ensures) _ _
-    (at-run-call .run-call .ensures .0)
+    (ran c .run-call .ensures .0)
     in
-    (at-print-line .print-line .ensures, done (c .before .call-size .ensures))
+    (c .before .before .print-line .ensures, done (c .before .call-size .ensures))
 
 pub turn-spec : {M : Type 1} → statement M
 turn-spec =
@@ -46,12 +49,12 @@ turn-spec =
     (λ c κs. search needs)
     print-line-requires
     (λ c κs. search needs)
-    (λ c. search needs)
-    (λ c. search needs)
-    (λ c. search needs)
-    (λ c. search needs)
-    (λ c. search needs)
-    (λ c. search needs)
-    (λ c. search needs)
-    (λ c. search needs)
+    (λ c. ran c .run-call .kept .1 .1 .1 .0)
+    (λ c. ran c .run-call .kept .1 .1 .1 .1 .0)
+    (λ c. ran c .run-call .kept .1 .1 .1 .1 .1 .0)
+    (λ c. ran c .run-call .kept .1 .1 .1 .1 .1 .1 .0)
+    (λ c. ran c .run-call .kept .1 .1 .1 .1 .1 .1 .1 .0)
+    (λ c. ran c .run-call .kept .1 .1 .1 .1 .1 .1 .1 .1 .0)
+    (λ c. ran c .run-call .kept .1 .1 .1 .1 .1 .1 .1 .1 .1 .0)
+    (λ c. ran c .run-call .kept .1 .1 .1 .1 .1 .1 .1 .1 .1 .1 .0)
     returns)
