@@ -32,8 +32,10 @@ fn finish(
     row: &mut [f32],
     frames: &mut [f32],
 )
-    requires { ⌜ Mixable p (now words) (now floats) ⌝ ∗ ⌜ length (now row) ≡ p .«sample_count» ⌝ ∗ ⌜ 2 * p .«sample_count» ≤ length (now frames) ⌝ }
-    ensures { λ _. ⌜ now (frames .exit) ≡ framesOn p (now (words .entry)) (now (floats .entry)) (now (buffers .entry)) (now (frames .entry)) ⌝ }
+    requires { ⌜ Mixable p (now words) (now floats) ⌝ ∗ ⌜ length (now row) ≡ p .«sample_count» ⌝
+        ∗ ⌜ 2 * p .«sample_count» ≤ length (now frames) ⌝ }
+    ensures { λ _. ⌜ now (frames .exit)
+        ≡ framesOn p (now (words .entry)) (now (floats .entry)) (now (buffers .entry)) (now (frames .entry)) ⌝ }
 {
     desk_render::render_mixes(p, words, floats, buffers, row);
     let n = p.sample_count as usize;
@@ -57,10 +59,15 @@ fn render_lent(
     out: &mut [f32],
     frames: &mut [f32],
 ) -> u32
-    requires { ⌜ Playing p (renderOf p (rangesOf (now ranges))) (now memory) 0 (stateOf (now words) (now longs) (now floats) (now contexts) (now history)) ⌝ ∗ ⌜ 2 * p .«sample_count» ≤ length (now frames) ⌝
+    requires { ⌜ Playing p (renderOf p (rangesOf (now ranges))) (now memory) 0
+        (stateOf (now words) (now longs) (now floats) (now contexts) (now history)) ⌝ ∗ ⌜ 2 * p .«sample_count» ≤ length (now frames) ⌝
         ∗ ⌜ Blank p (now buffers) ⌝ ∗ ⌜ Rows p (now src) (now out) ⌝ }
-    ensures { λ rounds. ⌜ rendered (stateOf (now (words .exit)) (now (longs .exit)) (now (floats .exit)) (now (contexts .exit)) (now (history .exit))) rounds (now (frames .exit))
-        ≡ renderedBy p (rangesOf (now (ranges .entry))) (now (memory .entry)) (stateOf (now (words .entry)) (now (longs .entry)) (now (floats .entry)) (now (contexts .entry)) (now (history .entry))) (now (frames .entry)) ⌝ }
+    ensures { λ rounds. ⌜ rendered
+        (stateOf (now (words .exit)) (now (longs .exit)) (now (floats .exit)) (now (contexts .exit)) (now (history .exit)))
+        rounds (now (frames .exit))
+        ≡ renderedBy p (rangesOf (now (ranges .entry))) (now (memory .entry))
+        (stateOf (now (words .entry)) (now (longs .entry)) (now (floats .entry)) (now (contexts .entry)) (now (history .entry)))
+        (now (frames .entry)) ⌝ }
 {
     let n = p.sample_count as usize;
     let total = p.mix_buffers as usize * n;
@@ -103,9 +110,14 @@ pub fn render(
     history: &mut [f32],
     frames: &mut [f32],
 ) -> u32
-    requires { ⌜ Playing p (renderOf p (rangesOf (now ranges))) (now memory) 0 (stateOf (now words) (now longs) (now floats) (now contexts) (now history)) ⌝ ∗ ⌜ 2 * p .«sample_count» ≤ length (now frames) ⌝ }
-    ensures { λ rounds. ⌜ rendered (stateOf (now (words .exit)) (now (longs .exit)) (now (floats .exit)) (now (contexts .exit)) (now (history .exit))) rounds (now (frames .exit))
-        ≡ renderedBy p (rangesOf (now (ranges .entry))) (now (memory .entry)) (stateOf (now (words .entry)) (now (longs .entry)) (now (floats .entry)) (now (contexts .entry)) (now (history .entry))) (now (frames .entry)) ⌝ }
+    requires { ⌜ Playing p (renderOf p (rangesOf (now ranges))) (now memory) 0
+        (stateOf (now words) (now longs) (now floats) (now contexts) (now history)) ⌝ ∗ ⌜ 2 * p .«sample_count» ≤ length (now frames) ⌝ }
+    ensures { λ rounds. ⌜ rendered
+        (stateOf (now (words .exit)) (now (longs .exit)) (now (floats .exit)) (now (contexts .exit)) (now (history .exit)))
+        rounds (now (frames .exit))
+        ≡ renderedBy p (rangesOf (now (ranges .entry))) (now (memory .entry))
+        (stateOf (now (words .entry)) (now (longs .entry)) (now (floats .entry)) (now (contexts .entry)) (now (history .entry)))
+        (now (frames .entry)) ⌝ }
 {
     rooms::render_from(
         0,

@@ -23,9 +23,15 @@ fn render_256(
     history: &mut [f32],
     frames: &mut [f32],
 ) -> u32
-    requires { ⌜ Playing p (renderOf p (rangesOf (now ranges))) (now memory) 0 (stateOf (now words) (now longs) (now floats) (now contexts) (now history)) ⌝ ∗ ⌜ 2 * p .«sample_count» ≤ length (now frames) ⌝ ∗ ⌜ Fits 0 p ⌝ }
-    ensures { λ rounds. ⌜ rendered (stateOf (now (words .exit)) (now (longs .exit)) (now (floats .exit)) (now (contexts .exit)) (now (history .exit))) rounds (now (frames .exit))
-        ≡ renderedBy p (rangesOf (now (ranges .entry))) (now (memory .entry)) (stateOf (now (words .entry)) (now (longs .entry)) (now (floats .entry)) (now (contexts .entry)) (now (history .entry))) (now (frames .entry)) ⌝ }
+    requires { ⌜ Playing p (renderOf p (rangesOf (now ranges))) (now memory) 0
+        (stateOf (now words) (now longs) (now floats) (now contexts) (now history)) ⌝ ∗ ⌜ 2 * p .«sample_count» ≤ length (now frames) ⌝
+        ∗ ⌜ Fits 0 p ⌝ }
+    ensures { λ rounds. ⌜ rendered
+        (stateOf (now (words .exit)) (now (longs .exit)) (now (floats .exit)) (now (contexts .exit)) (now (history .exit)))
+        rounds (now (frames .exit))
+        ≡ renderedBy p (rangesOf (now (ranges .entry))) (now (memory .entry))
+        (stateOf (now (words .entry)) (now (longs .entry)) (now (floats .entry)) (now (contexts .entry)) (now (history .entry)))
+        (now (frames .entry)) ⌝ }
 {
     let mut buffers = [0.0f32; 256];
     let mut src = [0.0f32; 64];
@@ -58,9 +64,15 @@ fn render_2560(
     history: &mut [f32],
     frames: &mut [f32],
 ) -> u32
-    requires { ⌜ Playing p (renderOf p (rangesOf (now ranges))) (now memory) 0 (stateOf (now words) (now longs) (now floats) (now contexts) (now history)) ⌝ ∗ ⌜ 2 * p .«sample_count» ≤ length (now frames) ⌝ ∗ ⌜ Fits 1 p ⌝ }
-    ensures { λ rounds. ⌜ rendered (stateOf (now (words .exit)) (now (longs .exit)) (now (floats .exit)) (now (contexts .exit)) (now (history .exit))) rounds (now (frames .exit))
-        ≡ renderedBy p (rangesOf (now (ranges .entry))) (now (memory .entry)) (stateOf (now (words .entry)) (now (longs .entry)) (now (floats .entry)) (now (contexts .entry)) (now (history .entry))) (now (frames .entry)) ⌝ }
+    requires { ⌜ Playing p (renderOf p (rangesOf (now ranges))) (now memory) 0
+        (stateOf (now words) (now longs) (now floats) (now contexts) (now history)) ⌝ ∗ ⌜ 2 * p .«sample_count» ≤ length (now frames) ⌝
+        ∗ ⌜ Fits 1 p ⌝ }
+    ensures { λ rounds. ⌜ rendered
+        (stateOf (now (words .exit)) (now (longs .exit)) (now (floats .exit)) (now (contexts .exit)) (now (history .exit)))
+        rounds (now (frames .exit))
+        ≡ renderedBy p (rangesOf (now (ranges .entry))) (now (memory .entry))
+        (stateOf (now (words .entry)) (now (longs .entry)) (now (floats .entry)) (now (contexts .entry)) (now (history .entry)))
+        (now (frames .entry)) ⌝ }
 {
     let mut buffers = [0.0f32; 2560];
     let mut src = [0.0f32; 516];
@@ -93,9 +105,15 @@ fn render_6144(
     history: &mut [f32],
     frames: &mut [f32],
 ) -> u32
-    requires { ⌜ Playing p (renderOf p (rangesOf (now ranges))) (now memory) 0 (stateOf (now words) (now longs) (now floats) (now contexts) (now history)) ⌝ ∗ ⌜ 2 * p .«sample_count» ≤ length (now frames) ⌝ ∗ ⌜ Fits 2 p ⌝ }
-    ensures { λ rounds. ⌜ rendered (stateOf (now (words .exit)) (now (longs .exit)) (now (floats .exit)) (now (contexts .exit)) (now (history .exit))) rounds (now (frames .exit))
-        ≡ renderedBy p (rangesOf (now (ranges .entry))) (now (memory .entry)) (stateOf (now (words .entry)) (now (longs .entry)) (now (floats .entry)) (now (contexts .entry)) (now (history .entry))) (now (frames .entry)) ⌝ }
+    requires { ⌜ Playing p (renderOf p (rangesOf (now ranges))) (now memory) 0
+        (stateOf (now words) (now longs) (now floats) (now contexts) (now history)) ⌝ ∗ ⌜ 2 * p .«sample_count» ≤ length (now frames) ⌝
+        ∗ ⌜ Fits 2 p ⌝ }
+    ensures { λ rounds. ⌜ rendered
+        (stateOf (now (words .exit)) (now (longs .exit)) (now (floats .exit)) (now (contexts .exit)) (now (history .exit)))
+        rounds (now (frames .exit))
+        ≡ renderedBy p (rangesOf (now (ranges .entry))) (now (memory .entry))
+        (stateOf (now (words .entry)) (now (longs .entry)) (now (floats .entry)) (now (contexts .entry)) (now (history .entry)))
+        (now (frames .entry)) ⌝ }
 {
     let mut buffers = [0.0f32; 6144];
     let mut src = [0.0f32; 516];
@@ -128,9 +146,15 @@ fn render_24576(
     history: &mut [f32],
     frames: &mut [f32],
 ) -> u32
-    requires { ⌜ Playing p (renderOf p (rangesOf (now ranges))) (now memory) 0 (stateOf (now words) (now longs) (now floats) (now contexts) (now history)) ⌝ ∗ ⌜ 2 * p .«sample_count» ≤ length (now frames) ⌝ ∗ ⌜ Fits 3 p ⌝ }
-    ensures { λ rounds. ⌜ rendered (stateOf (now (words .exit)) (now (longs .exit)) (now (floats .exit)) (now (contexts .exit)) (now (history .exit))) rounds (now (frames .exit))
-        ≡ renderedBy p (rangesOf (now (ranges .entry))) (now (memory .entry)) (stateOf (now (words .entry)) (now (longs .entry)) (now (floats .entry)) (now (contexts .entry)) (now (history .entry))) (now (frames .entry)) ⌝ }
+    requires { ⌜ Playing p (renderOf p (rangesOf (now ranges))) (now memory) 0
+        (stateOf (now words) (now longs) (now floats) (now contexts) (now history)) ⌝ ∗ ⌜ 2 * p .«sample_count» ≤ length (now frames) ⌝
+        ∗ ⌜ Fits 3 p ⌝ }
+    ensures { λ rounds. ⌜ rendered
+        (stateOf (now (words .exit)) (now (longs .exit)) (now (floats .exit)) (now (contexts .exit)) (now (history .exit)))
+        rounds (now (frames .exit))
+        ≡ renderedBy p (rangesOf (now (ranges .entry))) (now (memory .entry))
+        (stateOf (now (words .entry)) (now (longs .entry)) (now (floats .entry)) (now (contexts .entry)) (now (history .entry)))
+        (now (frames .entry)) ⌝ }
 {
     let mut buffers = [0.0f32; 24576];
     let mut src = [0.0f32; 516];
@@ -191,8 +215,8 @@ fn enough(k: u32, floats: usize, samples: u32) -> bool
     true
 }
 
-// A render in the first room from k on that is enough; room 3 always is. That it calls itself keeps the rooms out of its frame of the stack:
-// the compiler takes no large frame into a function that calls itself.
+// A render in the first room from k on that is enough; room 3 always is. That it calls itself keeps the rooms out of its frame of the
+// stack: the compiler takes no large frame into a function that calls itself.
 pub fn render_from(
     k: u32,
     p: Params,
@@ -205,9 +229,14 @@ pub fn render_from(
     history: &mut [f32],
     frames: &mut [f32],
 ) -> u32
-    requires { ⌜ Playing p (renderOf p (rangesOf (now ranges))) (now memory) 0 (stateOf (now words) (now longs) (now floats) (now contexts) (now history)) ⌝ ∗ ⌜ 2 * p .«sample_count» ≤ length (now frames) ⌝ }
-    ensures { λ rounds. ⌜ rendered (stateOf (now (words .exit)) (now (longs .exit)) (now (floats .exit)) (now (contexts .exit)) (now (history .exit))) rounds (now (frames .exit))
-        ≡ renderedBy p (rangesOf (now (ranges .entry))) (now (memory .entry)) (stateOf (now (words .entry)) (now (longs .entry)) (now (floats .entry)) (now (contexts .entry)) (now (history .entry))) (now (frames .entry)) ⌝ }
+    requires { ⌜ Playing p (renderOf p (rangesOf (now ranges))) (now memory) 0
+        (stateOf (now words) (now longs) (now floats) (now contexts) (now history)) ⌝ ∗ ⌜ 2 * p .«sample_count» ≤ length (now frames) ⌝ }
+    ensures { λ rounds. ⌜ rendered
+        (stateOf (now (words .exit)) (now (longs .exit)) (now (floats .exit)) (now (contexts .exit)) (now (history .exit)))
+        rounds (now (frames .exit))
+        ≡ renderedBy p (rangesOf (now (ranges .entry))) (now (memory .entry))
+        (stateOf (now (words .entry)) (now (longs .entry)) (now (floats .entry)) (now (contexts .entry)) (now (history .entry)))
+        (now (frames .entry)) ⌝ }
 {
     let total = p.mix_buffers as usize * p.sample_count as usize;
     if enough(k, total, p.sample_count) {

@@ -16,7 +16,8 @@ update-line-requires : tie.Need-update-line-requires
 update-line-requires c κs =
     let toward-update = c .before .before .before .before .before .before .before in
     let at-update = toward-update .before .before .before .before .before .before .before in
-    let start = at-update .before .before .before .before .before .before .before .before .before .before .before .before .before .before .before in
+    let toward-start = at-update .before .before .before .before .before .before .before .before in
+    let start = toward-start .before .before .before .before .before .before .before in
     let same = at-update .update .kept .1 .1 .1 .1 .1 .1 .1 .0 in
     let inside = reply-inside _ _ _ _ (at-update .update .result) (at-update .update .ensures) in
     ((omega (arith, inside, same), omega (arith, same, start .pre .0)), start .pre .1)
