@@ -9,41 +9,14 @@ mod port;
 #[path = "../compare/random.rs"]
 mod random;
 mod voices;
+mod workloads;
 use generate::BASE;
 use oracle::Memory;
-use oracle::mixer::probe::Slices;
 use oracle::renderer::Probe;
 use random::{Random, bits};
 use std::hint::black_box;
 use std::time::Instant;
-use voices::{SAMPLES, Sound};
-
-const VOICES: usize = 24;
-
-/// What plays: PCM16, every fourth voice in stereo, or else every second voice in ADPCM; the voices' sample rates in turn.
-struct Desk {
-    name: &'static str,
-    sounds: bool,
-    rates: [u32; 3],
-    adpcm: bool,
-}
-
-/// The state of a title with 24 voices that loop.
-fn state(desk: &Desk, memory: usize) -> Slices {
-    let sound = |v: usize| {
-        let adpcm = desk.adpcm && v % 2 == 1;
-        Sound {
-            format: if adpcm { 6 } else { 2 },
-            channels: if !adpcm && v % 4 == 0 { 2 } else { 1 },
-            rate: desk.rates[v % 3],
-            address: BASE + 64,
-            size: memory as u64 - 64,
-            samples: 9000 + v as u32 * 100,
-            context: 0,
-        }
-    };
-    voices::state(&(0..VOICES).map(sound).collect::<Vec<Sound>>(), desk.sounds)
-}
+use workloads::{MIXED, Workload};
 
 /// The median over many runs, taken in turn, of port over Rust; each run is of so many calls.
 fn ratio(name: &str, times: usize, mut port: impl FnMut(), mut rust: impl FnMut()) {
@@ -62,7 +35,7 @@ fn ratio(name: &str, times: usize, mut port: impl FnMut(), mut rust: impl FnMut(
 }
 
 /// Renders of both from the same state: 200 that must be the same, and then timed ones.
-fn renders(name: &str, times: usize, samples: usize, sounds: bool, mut s: Slices, probe: &Probe, memory: &[u8]) {
+fn renders(Workload { name, times, samples, sounds, slices: mut s, probe }: Workload, memory: &[u8]) {
     let (mem, range) = (Memory { base: BASE, bytes: memory }, port::whole(BASE, memory));
     let mut frames = vec![0.0; 2 * samples];
     for _ in 0..200 {
@@ -86,21 +59,9 @@ fn renders(name: &str, times: usize, samples: usize, sounds: bool, mut s: Slices
 fn main() {
     let r = &mut Random(7);
     let memory = voices::memory(r, 200_000);
-    for desk in [
-        Desk { name: "PCM16 and ADPCM at 48000, 44100 and 32000 Hz", sounds: true, rates: [48000, 44100, 32000], adpcm: true },
-        Desk { name: "PCM16 at 48000 Hz", sounds: true, rates: [48000; 3], adpcm: false },
-        Desk { name: "silent", sounds: false, rates: [48000; 3], adpcm: true },
-    ] {
-        let before = state(&desk, memory.len());
-        let probe = Probe::restore(&before);
-        renders(&format!("24 voices, 240 samples, {}", desk.name), 10, SAMPLES, desk.sounds, before, &probe, &memory);
-    }
-    for desk in desks::DESKS {
-        let (s, probe) = desk.open(memory.len());
-        renders(desk.name, desk.times, desk.samples, desk.sounds(), s, &probe, &memory);
-    }
+    workloads::all(memory.len()).for_each(|workload| renders(workload, &memory));
 
-    let before = state(&Desk { name: "", sounds: true, rates: [48000, 44100, 32000], adpcm: true }, memory.len());
+    let before = MIXED.state(memory.len());
     let input = loop {
         let (bytes, kind) = inputs::input(r, &before.words, memory.len() as u64);
         if kind == 0 {

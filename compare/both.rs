@@ -3,6 +3,7 @@ use crate::empty::{self, Reached};
 use crate::modes::{Call, Open, Session};
 use crate::port::{self, Lengths, Render, Update, all, place, places, seen, unchanged};
 use crate::ranged::Ranged;
+use crate::sectioned::{Given, Sectioned, Single, consumed};
 use oracle::mixer::probe::Slices;
 use oracle::ranges::take_reads;
 use oracle::session::Session as Oracle;
@@ -20,9 +21,12 @@ pub enum Judge {
 pub struct Tally {
     pub opens: u64,
     /// Calls by their answer.
-    pub refused: [u64; 14],
+    pub refused: [u64; 15],
     pub updates: u64,
     pub renders: u64,
+    /// Sections, and the renders of those that succeed.
+    pub sections: u64,
+    pub joined: u64,
     pub silent: u64,
     pub sounding: u64,
     pub nans: u64,
@@ -34,6 +38,21 @@ pub struct Tally {
     pub empty_refused: u64,
     pub reached: Reached,
     pub ranged: Ranged,
+    pub sectioned: Sectioned,
+}
+
+impl Tally {
+    /// Counts the frames of a render, unless the Rust has no answer to it.
+    fn heard(&mut self, frames: &[f32], unanswered: bool, by_rule: bool) {
+        self.still += u64::from(unanswered || by_rule);
+        if !unanswered {
+            let sounding = frames.chunks(2).filter(|f| f[0] != 0.0 || f[1] != 0.0).count() as u64;
+            self.sounding += sounding;
+            self.silent += frames.len() as u64 / 2 - sounding;
+            self.nans += frames.iter().filter(|x| x.is_nan()).count() as u64;
+            self.still_sounding += u64::from(by_rule && sounding > 0);
+        }
+    }
 }
 
 /// An open on both sides: what it begins, or nothing where it is refused.
@@ -74,6 +93,77 @@ fn open(o: &Open, t: &mut Tally) -> Result<Option<(Slices, Oracle)>, String> {
     }
 }
 
+/// The Rust alone has no rule for a fourth point, and the Rust with the rules has an answer to every render.
+fn named(judge: Judge, unanswered: bool, by_rule: bool) -> Result<(), String> {
+    if (judge == Judge::Rust && by_rule) || (judge == Judge::Rules && unanswered) {
+        return Err("the oracle is not the judge that is named".into());
+    }
+    Ok(())
+}
+
+/// The port's single renders from a state, as many as a section on it made: the section gave their frames and rounds, and left what they
+/// leave, to the bit.
+fn singles(given: &Given, state: &Slices, left: &Slices, frames: &[f32], rounds: u32) -> Result<Vec<Single>, String> {
+    let (mut s, mut all) = (state.clone(), Vec::new());
+    for (k, joined) in frames.chunks(given.each).enumerate() {
+        let mut single = vec![0.25; joined.len()];
+        let answer = port::render(&mut s, given.ranges, given.memory, &mut single);
+        let differs = single.iter().zip(joined).position(|(x, y)| x.to_bits() != y.to_bits());
+        if answer.number != 0 || differs.is_some() {
+            return Err(format!("single render {k} of a section's answers {}; frames at {differs:?}", answer.number));
+        }
+        all.push(Single { rounds: answer.rounds, consumed: consumed(&s) });
+    }
+    let sum: u32 = all.iter().map(|one| one.rounds).sum();
+    if all.len() != given.count as usize || sum != rounds || !unchanged(&s, left) {
+        return Err(format!("{} single renders of a section's: {sum} rounds, not {rounds}, or {}", all.len(), places(left, &s)));
+    }
+    Ok(all)
+}
+
+/// A section on both sides, and the port's single renders beside it. Frames are compared render by render, but for those to which the Rust
+/// has no answer. Gives the answer's number.
+fn section(given: &Given, s: &mut Slices, oracle: &mut Oracle, judge: Judge, t: &mut Tally) -> Result<u32, String> {
+    let (before, mut out) = (s.clone(), vec![0.25; given.room]);
+    let &Given { count, ranges, memory, room, each } = given;
+    let answer = port::section(s, count, ranges, memory, &mut out);
+    let reasons = oracle.reasons(ranges, memory.len(), count, room);
+    let result = oracle.section(count, ranges, memory, room);
+    take_reads();
+    let made = match result {
+        Err(number) => {
+            if answer != (Render { number, rounds: 0 }) || out.iter().any(|&x| x != 0.25) {
+                return Err(format!("section of {count} {answer:?}, not {number}, or it writes frames"));
+            }
+            t.sectioned.refused(given, &reasons);
+            return Ok(number);
+        }
+        Ok(made) => made,
+    };
+    if made.frames.len() != given.floats() || made.unanswered.len() != count as usize {
+        return Err(format!("the oracle gives {} floats", made.frames.len()));
+    }
+    let should = Render { number: 0, rounds: made.rounds as u32 };
+    let (frames, beyond) = out.split_at(given.floats().min(room));
+    if answer != should || frames.len() < given.floats() || beyond.iter().any(|&x| x != 0.25) {
+        return Err(format!("section of {count} {answer:?}, not {should:?}, or it writes beyond its frames"));
+    }
+    for (k, (ours, theirs)) in frames.chunks(each).zip(made.frames.chunks(each)).enumerate() {
+        let (unanswered, by_rule) = (made.unanswered[k], made.by_rule[k]);
+        named(judge, unanswered, by_rule)?;
+        if let Some(at) = place(&all(ours), &all(theirs)).filter(|_| !unanswered) {
+            return Err(format!("render {k} of a section of {count}: frames at {at}"));
+        }
+        t.heard(theirs, unanswered, by_rule);
+    }
+    let beside = singles(given, &before, s, frames, answer.rounds)?;
+    let still: Vec<bool> = made.unanswered.iter().zip(&made.by_rule).map(|(a, b)| *a || *b).collect();
+    t.sectioned.taken(given, frames, consumed(&before), &beside, &still);
+    t.rounds += made.rounds;
+    t.joined += u64::from(count);
+    Ok(0)
+}
+
 /// A call on both sides. The title's memory stands at a base.
 fn call(c: &Call, base: u64, s: &mut Slices, oracle: &mut Oracle, judge: Judge, t: &mut Tally) -> Result<(), String> {
     let before = s.clone();
@@ -109,7 +199,7 @@ fn call(c: &Call, base: u64, s: &mut Slices, oracle: &mut Oracle, judge: Judge, 
             let room = room(2 * oracle.samples(), *spare);
             let mut out = vec![0.25; room];
             let answer = port::render(s, ranges, memory, &mut out);
-            let reasons = oracle.reasons(ranges, memory.len(), room);
+            let reasons = oracle.reasons(ranges, memory.len(), 1, room);
             let result = oracle.render(ranges, memory, room);
             let reads = take_reads();
             let (frames, rounds) = result.as_ref().map_or((&[][..], 0), |(f, n)| (&f[..], *n));
@@ -117,9 +207,7 @@ fn call(c: &Call, base: u64, s: &mut Slices, oracle: &mut Oracle, judge: Judge, 
                 return Err(format!("the oracle gives {} floats", frames.len()));
             }
             let (unanswered, by_rule) = (oracle::take_no_answers() > 0, oracle::take_fourths() > 0);
-            if (judge == Judge::Rust && by_rule) || (judge == Judge::Rules && unanswered) {
-                return Err("the oracle is not the judge that is named".into());
-            }
+            named(judge, unanswered, by_rule)?;
             let should = Render { number: result.as_ref().err().copied().unwrap_or(0), rounds: rounds as u32 };
             let (given, beyond) = out.split_at(frames.len().min(room));
             let differs = if unanswered { None } else { place(&all(given), &all(frames)) };
@@ -131,15 +219,14 @@ fn call(c: &Call, base: u64, s: &mut Slices, oracle: &mut Oracle, judge: Judge, 
                 Err(_) => t.ranged.refused(ranges, memory.len(), &reasons),
             }
             t.rounds += rounds;
-            t.still += u64::from(unanswered || by_rule);
-            if !unanswered {
-                let sounding = frames.chunks(2).filter(|f| f[0] != 0.0 || f[1] != 0.0).count() as u64;
-                t.sounding += sounding;
-                t.silent += frames.len() as u64 / 2 - sounding;
-                t.nans += frames.iter().filter(|x| x.is_nan()).count() as u64;
-                t.still_sounding += u64::from(by_rule && sounding > 0);
-            }
+            t.heard(frames, unanswered, by_rule);
             (should.number, false)
+        }
+        Call::Section { count, ranges, memory, spare } => {
+            t.sections += 1;
+            let each = 2 * oracle.samples();
+            let given = Given { count: *count, ranges, memory, room: room(*count as usize * each, *spare), each };
+            (section(&given, s, oracle, judge, t)?, *count == 0)
         }
     };
     t.refused[refusal as usize] += 1;
@@ -162,6 +249,7 @@ pub fn run(session: &Session, judge: Judge, t: &mut Tally) -> Result<(), (usize,
         }
     }
     let (mut slices, mut oracle) = state.expect("the last open succeeds");
+    t.sectioned.session(&session.calls);
     for (k, c) in session.calls.iter().enumerate() {
         call(c, session.base, &mut slices, &mut oracle, judge, t).map_err(|e| (k, e))?;
     }

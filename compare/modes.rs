@@ -6,16 +6,20 @@ use crate::lends::{Lend, at_once, in_ranges, in_ranges_refused};
 use crate::port::whole;
 use crate::random::Random;
 use crate::refusals::{refused, refused_opens};
+use crate::sections::in_sections;
 use crate::title::{SIZE, Title};
 use oracle::renderer::Probe;
 
-pub const MODES: [&str; 10] = ["played", "routes", "damaged", "random", "refused", "limits", "small", "slowed", "ranges", "ranges_refused"];
+pub const MODES: [&str; 11] =
+    ["played", "routes", "damaged", "random", "refused", "limits", "small", "slowed", "ranges", "ranges_refused", "sections"];
 
 /// A call. `spare` is how much longer, or shorter, the reply or frame slice is than what the call gives; `ranges` are three numbers each.
+/// A section is so many renders in one call.
 #[derive(Clone)]
 pub enum Call {
     Update { expected: u32, input: Vec<u8>, spare: i64 },
     Render { ranges: Vec<u64>, memory: Vec<u8>, spare: i64 },
+    Section { count: u32, ranges: Vec<u64>, memory: Vec<u8>, spare: i64 },
 }
 
 /// An open: the parameter bytes, and which state slice is how much too long or too short.
@@ -73,6 +77,17 @@ fn small(r: &mut Random) -> Vec<u32> {
 fn any_samples(r: &mut Random) -> Vec<u32> {
     let mut p = heard(r);
     p[1] = [1, 256, 1 + r.below(32) as u32, 1 + r.below(256) as u32][r.below(4) as usize];
+    p
+}
+
+/// Parameters of a title that is heard; one in twelve has renders so short that the largest sections of them are cheap.
+fn for_sections(r: &mut Random) -> Vec<u32> {
+    let mut p = heard(r);
+    if r.below(12) == 0 {
+        for (k, most) in [(1, 3), (3, 1), (4, 2), (5, 2), (7, 2), (8, 2)] {
+            p[k] = p[k].min(most);
+        }
+    }
     p
 }
 
@@ -158,7 +173,7 @@ fn damaged(r: &mut Random, calls: &mut [Call]) {
                 }
                 _ => {}
             },
-            Call::Render { ranges, memory, .. } => {
+            Call::Render { ranges, memory, .. } | Call::Section { ranges, memory, .. } => {
                 let mut base = BASE;
                 match r.below(6) {
                     0 => memory.truncate(r.below(memory.len() as u64 + 1) as usize),
@@ -206,6 +221,7 @@ pub fn session(r: &mut Random, mode: &str) -> Session {
         "limits" => most(r),
         "small" => small(r),
         "slowed" => any_samples(r),
+        "sections" => for_sections(r),
         "random" if r.below(2) == 0 => parameters(r),
         _ => heard(r),
     };
@@ -240,6 +256,10 @@ pub fn session(r: &mut Random, mode: &str) -> Session {
             let mut title = Title::new(r, p.clone());
             title.base = base;
             calls_of(r, title, false, if mode == "ranges" { in_ranges } else { in_ranges_refused })
+        }
+        "sections" => {
+            let title = Title::new(r, p.clone());
+            calls_of(r, title, false, in_sections)
         }
         _ => played(r, p.clone(), mode == "routes"),
     };

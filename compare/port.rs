@@ -6,7 +6,7 @@ use oracle::mixer::probe::Slices;
 #[allow(dead_code)]
 #[path = "../bindings/rust/src/sys.rs"]
 mod sys;
-use sys::{jeqlluna_lengths, jeqlluna_open, jeqlluna_render, jeqlluna_update};
+use sys::{jeqlluna_lengths, jeqlluna_open, jeqlluna_render, jeqlluna_render_section, jeqlluna_update};
 #[allow(unused_imports)]
 pub use sys::{Lengths, Render, Update};
 
@@ -45,6 +45,18 @@ pub fn render(s: &mut Slices, ranges: &[u64], memory: &[u8], frames: &mut [f32])
         jeqlluna_render(
             s.words.as_mut_ptr(), s.words.len(), s.longs.as_mut_ptr(), s.longs.len(), s.floats.as_mut_ptr(), s.floats.len(),
             s.contexts.as_mut_ptr(), s.contexts.len(), s.history.as_mut_ptr(), s.history.len(), ranges.as_ptr(), ranges.len(),
+            memory.as_ptr(), memory.len(), frames.as_mut_ptr(), frames.len(),
+        )
+    }
+}
+
+/// So many renders in one call, likewise.
+#[allow(dead_code)]
+pub fn section(s: &mut Slices, count: u32, ranges: &[u64], memory: &[u8], frames: &mut [f32]) -> Render {
+    unsafe {
+        jeqlluna_render_section(
+            s.words.as_mut_ptr(), s.words.len(), s.longs.as_mut_ptr(), s.longs.len(), s.floats.as_mut_ptr(), s.floats.len(),
+            s.contexts.as_mut_ptr(), s.contexts.len(), s.history.as_mut_ptr(), s.history.len(), count, ranges.as_ptr(), ranges.len(),
             memory.as_ptr(), memory.len(), frames.as_mut_ptr(), frames.len(),
         )
     }

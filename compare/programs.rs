@@ -13,6 +13,7 @@ fn program(r: &mut Random, damaged: bool, Session { opens, mut calls, .. }: Sess
         let coded = calls.iter().flat_map(|c| match c {
             Call::Update { expected, input, .. } => [&[0][..], &expected.to_le_bytes(), &block(input)].concat(),
             Call::Render { .. } => vec![1],
+            Call::Section { .. } => unreachable!("the session program has single renders alone"),
         });
         let mut d = [block(&opens[0].parameters), block(&memory), (calls.len() as u32).to_le_bytes().to_vec(), coded.collect()].concat();
         if d.len() <= 65_536 {

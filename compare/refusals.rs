@@ -17,7 +17,7 @@ pub fn refused(r: &mut Random, calls: Vec<Call>) -> Vec<Call> {
                         input.clear();
                     }
                 }
-                Call::Render { ranges, memory, spare } => {
+                Call::Render { ranges, memory, spare } | Call::Section { ranges, memory, spare, .. } => {
                     let mut base = BASE;
                     if r.below(2) == 0 {
                         base = [(1 << 63) - memory.len() as u64 + 1, 1 << 63, u64::MAX - r.below(64), u64::MAX - memory.len() as u64 + 1][r.below(4) as usize];

@@ -20,6 +20,8 @@ mod programs;
 mod random;
 mod ranged;
 mod refusals;
+mod sectioned;
+mod sections;
 mod sessions;
 mod spoils;
 mod title;
@@ -154,7 +156,7 @@ fn main() {
         ("a read with a gap from any whole state", gapped),
     ];
     let mut never: Vec<&str> = counts.iter().filter(|c| c.1 == 0).map(|c| c.0).collect();
-    never.extend(total.unranged.iter().map(String::as_str));
+    never.extend(total.unreached.iter().map(String::as_str));
     for what in &never {
         println!("never reached: {what}");
     }

@@ -5,7 +5,9 @@
 //! It has no answer to a render in which a voice needs no new sample: of such a render all but the frames is compared; frames by the driver
 //! `rules`. From 100 sessions of the mode `slowed` on, there must be some.
 //! In the modes `ranges` and `ranges_refused` memory is in ranges, which the oracle reads byte by byte. They print which reads crossed
-//! ranges and which reasons refused a render; from 1,000 sessions on, none may be missing.
+//! ranges and which reasons refused a render; from 1,000 sessions on, none may be missing. The mode `sections` has many renders in one
+//! call, for which the oracle renders as often; the port's section is also held to the port's single renders from the same state, to the
+//! bit. It prints which counts, refusals and kinds of sections there were, of which likewise none may be missing.
 mod both;
 mod cuts;
 mod desk;
@@ -20,6 +22,8 @@ mod port;
 mod random;
 mod ranged;
 mod refusals;
+mod sectioned;
+mod sections;
 mod sessions;
 mod spoils;
 mod title;
@@ -37,7 +41,7 @@ fn main() {
     let asked = |mode| count >= 100 && wanted.contains(&mode);
     let counts = [("random", "an empty update", total.reached.empty), ("slowed", "a render without answer", total.still_slowed)];
     let mut never: Vec<&str> = counts.iter().filter(|c| asked(c.0) && c.2 == 0).map(|c| c.1).collect();
-    never.extend(total.unranged.iter().filter(|_| count >= 1000).map(String::as_str));
+    never.extend(total.unreached.iter().filter(|_| count >= 1000).map(String::as_str));
     for what in &never {
         println!("never reached: {what}");
     }

@@ -15,8 +15,8 @@ pub struct Total {
     pub still: u64,
     pub still_sounding: u64,
     pub still_slowed: u64,
-    /// What the modes with ranges should have reached and never did.
-    pub unranged: Vec<String>,
+    /// What the modes with ranges and sections should have reached and never did.
+    pub unreached: Vec<String>,
 }
 
 /// Leaves out calls as long as the session still differs.
@@ -44,6 +44,9 @@ fn print(session: &Session) {
                 println!("  update expected {expected:#x}, spare {spare}, input {bytes}");
             }
             Call::Render { ranges, memory, spare } => println!("  render ranges {ranges:x?}, {:#x} bytes, spare {spare}", memory.len()),
+            Call::Section { count, ranges, memory, spare } => {
+                println!("  section of {count}, ranges {ranges:x?}, {:#x} bytes, spare {spare}", memory.len());
+            }
         }
     }
 }
@@ -71,24 +74,26 @@ pub fn compare(seed: u64, count: u64, modes: &[&str], judge: Judge, make: fn(&mu
                 }
             }
         }
-        let (calls, refused) = (t.updates + t.renders, [1, 2, 3, 5, 6, 7, 13].map(|n| t.refused[n]));
-        let kinds = format!("{} updates, {} renders", t.updates, t.renders);
-        println!("{mode}: {count} sessions, {} opens, {calls} calls ({kinds}); refused by 1, 2, 3, 5, 6, 7, 13: {refused:?}", t.opens);
+        let (calls, refused) = (t.updates + t.renders + t.sections, [1, 2, 3, 5, 6, 7, 13, 14].map(|n| t.refused[n]));
+        let kinds = format!("{} updates, {} renders, {} sections", t.updates, t.renders, t.sections);
+        println!("{mode}: {count} sessions, {} opens, {calls} calls ({kinds}); {} renders in sections", t.opens, t.joined);
+        println!("  refused by 1, 2, 3, 5, 6, 7, 13, 14: {refused:?}");
         println!("  frames: {} silent, {} sounding, {} NaNs; {} rounds; {differing} differ", t.silent, t.sounding, t.nans, t.rounds);
         match judge {
             Judge::Rust => println!("  renders without answer, whose frames are not compared: {}", t.still),
             Judge::Rules => println!("  renders by the rule for a fourth point: {}, of which {} sound", t.still, t.still_sounding),
         }
-        let ranged = match *mode {
+        let reached = match *mode {
             "ranges" => t.ranged.reads(),
             "ranges_refused" => t.ranged.refusals(),
+            "sections" => t.sectioned.reached(),
             _ => vec![],
         };
-        for line in ranged.chunks(3) {
+        for line in reached.chunks(3) {
             let told: Vec<String> = line.iter().map(|(what, n)| format!("{what} {n}")).collect();
             println!("  {}", told.join("; "));
         }
-        total.unranged.extend(ranged.into_iter().filter(|(_, n)| *n == 0).map(|(what, _)| what));
+        total.unreached.extend(reached.into_iter().filter(|(_, n)| *n == 0).map(|(what, _)| what));
         total.compared += calls + t.opens;
         total.differ += differing;
         total.empty_refused += t.empty_refused;

@@ -47,19 +47,30 @@ fn many(r: &mut Random, Cut { ranges, slice }: &mut Cut) {
     ranges.resize(count.max(ranges.len()), Range::new(base, slice.len() as u64, 0));
 }
 
-/// Puts reasons for a refusal into ranges that are allowed, and takes floats from the frames for one of them.
-pub fn spoil(r: &mut Random, cut: &mut Cut, spare: &mut i64) {
-    let wanted = 1 + r.below(31);
+/// The reasons that can be put into ranges, a bit each.
+pub const PART: u64 = 1;
+pub const BELOW: u64 = 2;
+pub const FAR: u64 = 4;
+pub const MANY: u64 = 8;
+
+/// Puts reasons for a refusal into ranges that are allowed.
+pub fn put(r: &mut Random, cut: &mut Cut, wanted: u64) {
     while cut.ranges.len() < 2 {
         let base = cut.ranges.last().map_or(0, |last| last.base + last.length);
         cut.ranges.push(Range::new(base, 0, 0));
     }
-    let reasons: [fn(&mut Random, &mut Cut); 4] = [part, below, far, many];
-    for (k, put) in reasons.into_iter().enumerate() {
-        if wanted >> k & 1 != 0 {
+    let reasons: [(u64, fn(&mut Random, &mut Cut)); 4] = [(PART, part), (BELOW, below), (FAR, far), (MANY, many)];
+    for (bit, put) in reasons {
+        if wanted & bit != 0 {
             put(r, cut);
         }
     }
+}
+
+/// Puts such reasons into ranges, and takes floats from the frames for one more.
+pub fn spoil(r: &mut Random, cut: &mut Cut, spare: &mut i64) {
+    let wanted = 1 + r.below(31);
+    put(r, cut, wanted);
     if wanted >> 4 != 0 {
         *spare = -1 - [0, 1, r.below(512) as i64][r.below(3) as usize];
     }

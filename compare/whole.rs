@@ -1,10 +1,10 @@
 //! Holds question 4, "is the state whole?", to a list of its clauses (clauses.rs): of each state the list says whether it is whole, and an
-//! update and a render through the C interface must answer 0 or 4 accordingly, and by 4 change nothing.
+//! update, a render and a section through the C interface must answer 0 or 4 accordingly, and by 4 change nothing.
 //!
 //! `whole [SEED [COUNT]]` tries COUNT states: each clause broken alone and with each other one, and at the limits of what it allows, in the
-//! first, a middle and the last row; with ranges, memory, reply and frames that questions 13, 5, 6 and 7 refuse, and without; updates with
-//! an empty input among them. It fails where a clause, a row, a pair or an answer was never hit, for which a COUNT below 200,000 may be too
-//! small.
+//! first, a middle and the last row; with ranges, memory, counts, reply and frames that questions 13, 5, 14, 6 and 7 refuse, and without;
+//! updates with an empty input and sections of no render among them. It fails where a clause, a row, a pair or an answer was never hit, for
+//! which a COUNT below 200,000 may be too small.
 //! `whole wrong` tries the list with one wrong entry, for many of them: each must be noticed.
 mod clauses;
 #[allow(dead_code)]
@@ -12,42 +12,24 @@ mod random;
 #[allow(dead_code)]
 #[path = "../bindings/rust/src/sys.rs"]
 mod sys;
+mod whole_calls;
 mod whole_states;
 mod whole_tally;
 mod wrong_clauses;
 use clauses::{Clause, PARAMETERS, SAMPLES, State, broken, right_lengths};
 use random::Random;
 use std::time::Instant;
-use sys::{Render, Update, jeqlluna_lengths, jeqlluna_open, jeqlluna_render, jeqlluna_update};
+use sys::{jeqlluna_lengths, jeqlluna_open};
+use whole_calls::{Lent, render, update};
 use whole_states::{Aim, Size, make};
 use whole_tally::Tally;
 
 /// Where sample memory must end at the latest.
 const END: u64 = 1 << 63;
+/// How many renders a section may have.
+const MOST: u32 = 1024;
 /// A reply slice of so many bytes is long enough for every update that is tried.
 const REPLY: usize = 20_000;
-
-/// The port's update on a state.
-fn update(s: &mut State, expected: u32, input: &[u8], reply: &mut [u8]) -> Update {
-    unsafe {
-        jeqlluna_update(
-            s.words.as_mut_ptr(), s.words.len(), s.longs.as_mut_ptr(), s.longs.len(), s.floats.as_mut_ptr().cast(), s.floats.len(),
-            s.contexts.as_mut_ptr(), s.contexts.len(), s.history.as_mut_ptr().cast(), s.history.len(), expected, input.as_ptr(),
-            input.len(), reply.as_mut_ptr(), reply.len(),
-        )
-    }
-}
-
-/// The port's render on a state; frames are held as their bits.
-fn render(s: &mut State, ranges: &[u64], memory: &[u8], frames: &mut [u32]) -> Render {
-    unsafe {
-        jeqlluna_render(
-            s.words.as_mut_ptr(), s.words.len(), s.longs.as_mut_ptr(), s.longs.len(), s.floats.as_mut_ptr().cast(), s.floats.len(),
-            s.contexts.as_mut_ptr(), s.contexts.len(), s.history.as_mut_ptr().cast(), s.history.len(), ranges.as_ptr(), ranges.len(),
-            memory.as_ptr(), memory.len(), frames.as_mut_ptr().cast(), frames.len(),
-        )
-    }
-}
 
 /// One run: the list, whether differences are only counted, what was counted, and the state that the calls change.
 struct Run<'a> {
@@ -86,14 +68,15 @@ impl Run<'_> {
         self.count(right, &format!("an update that should answer {number} answers {}", u.number), s, found);
     }
 
-    /// A refused render likewise.
-    fn no_render(&mut self, s: &State, found: u64, number: u32, ranges: &[u64], memory: &[u8], room: usize) {
-        let mut frames = vec![0x7f80_5a5a; room];
+    /// A refused render or section likewise.
+    fn no_render(&mut self, s: &State, found: u64, number: u32, lent: Lent) {
+        let mut frames = vec![0x7f80_5a5a; lent.room];
         self.after.clone_from(s);
-        let a = render(&mut self.after, ranges, memory, &mut frames);
+        let a = render(&mut self.after, &lent, &mut frames);
         let right = (a.number, a.rounds) == (number, 0) && self.kept(s) && frames.iter().all(|&x| x == 0x7f80_5a5a);
         self.tally.answers[number as usize] += 1;
-        self.count(right, &format!("a render that should answer {number} answers {}", a.number), s, found);
+        self.tally.sections[number as usize] += u64::from(lent.count.is_some());
+        self.count(right, &format!("{} that should answer {number} answers {}", lent.name(), a.number), s, found);
     }
 
     /// An update that succeeds leaves a whole state, and what lies behind the reply; an empty one leaves the state as it was. The reply's
@@ -110,17 +93,19 @@ impl Run<'_> {
         u.size
     }
 
-    /// A render that succeeds likewise.
-    fn yes_render(&mut self, s: &State, ranges: &[u64], memory: &[u8], room: usize) {
-        let mut frames = vec![0x7f80_5a5a; room];
+    /// A render or section that succeeds likewise; a section of no render leaves the state as it was.
+    fn yes_render(&mut self, s: &State, lent: Lent) {
+        let mut frames = vec![0x7f80_5a5a; lent.room];
         self.after.clone_from(s);
-        let a = render(&mut self.after, ranges, memory, &mut frames);
-        let right = a.number == 0 && frames[frame_floats(s)..].iter().all(|&x| x == 0x7f80_5a5a) && broken(self.list, &self.after) == 0;
+        let (a, made) = (render(&mut self.after, &lent, &mut frames), lent.count.unwrap_or(1) as usize * frame_floats(s));
+        let whole = broken(self.list, &self.after) == 0 && (made > 0 || self.kept(s));
+        let right = a.number == 0 && frames[made..].iter().all(|&x| x == 0x7f80_5a5a) && whole;
         self.tally.answers[0] += 1;
-        self.count(right, &format!("a render of a whole state answers {}", a.number), s, 0);
+        self.tally.sections[0] += u64::from(lent.count.is_some());
+        self.count(right, &format!("{} of a whole state answers {}", lent.name(), a.number), s, 0);
     }
 
-    /// A state that the list says is broken: 4, whatever questions 13, 5, 6 and 7 would say.
+    /// A state that the list says is broken: 4, whatever questions 13, 5, 14, 6 and 7 would say.
     fn refused(&mut self, r: &mut Random, s: &State, found: u64) {
         let (input, memory) = (some_bytes(r, 80), some_bytes(r, 64));
         let frames = frame_floats(s);
@@ -131,26 +116,39 @@ impl Run<'_> {
         self.no_update(s, found, 4, r.next() as u32, &input, if short { r.below(64) as usize } else { REPLY });
         let base = if far { far_base(r, memory.len()) } else { r.below(END - 64) };
         let room = if less { frames.saturating_sub(1 + r.below(3) as usize) } else { frames + r.below(3) as usize };
-        let ranges = if astray { not_laid(r, base, &memory) } else { whole(base, &memory) };
-        self.no_render(s, found, 4, &ranges, &memory, room);
+        let ranges = &if astray { not_laid(r, base, &memory) } else { whole(base, &memory) };
+        self.no_render(s, found, 4, Lent { count: None, ranges, memory: &memory, room });
+        let count = [0, 1, 2, MOST, MOST + 1, u32::MAX][r.below(6) as usize];
+        self.tally.large += u64::from(count > MOST);
+        self.no_render(s, found, 4, Lent { count: Some(count), ranges, memory: &memory, room });
     }
 
-    /// A state that the list says is whole: 0, or 13, 5, 6 and 7 as these questions say.
+    /// A state that the list says is whole: 0, or 13, 5, 14, 6 and 7 as these questions say.
     fn taken(&mut self, r: &mut Random, s: &State) {
         let (input, memory) = (some_bytes(r, 300), some_bytes(r, 64));
         let (expected, frames) = (r.below(0x2000) as u32, frame_floats(s));
         let size = self.yes_update(s, expected, &input, REPLY);
         let base = [0, 0x10000, END - memory.len() as u64][r.below(3) as usize];
-        self.yes_render(s, &whole(base, &memory), &memory, frames + r.below(3) as usize);
+        let near = Lent { count: None, ranges: &whole(base, &memory), memory: &memory, room: frames + r.below(3) as usize };
+        self.yes_render(s, near);
         if r.below(4) == 0 && size > 0 {
             self.yes_update(s, expected, &input, size);
             self.no_update(s, 0, 6, expected, &input, [size - 1, 0, r.below(size as u64) as usize][r.below(3) as usize]);
             let short = frames.saturating_sub(1 + r.below(3) as usize);
-            self.no_render(s, 0, 7, &whole(base, &memory), &memory, short);
             let far = far_base(r, memory.len());
-            self.no_render(s, 0, 5, &whole(far, &memory), &memory, if r.below(2) == 0 { short } else { frames });
             let base = [base, far][r.below(2) as usize];
-            self.no_render(s, 0, 13, &not_laid(r, base, &memory), &memory, if r.below(2) == 0 { short } else { frames });
+            let (distant, astray) = (whole(far, &memory), not_laid(r, base, &memory));
+            self.no_render(s, 0, 7, Lent { room: short, ..near });
+            self.no_render(s, 0, 5, Lent { ranges: &distant, room: if r.below(2) == 0 { short } else { frames }, ..near });
+            self.no_render(s, 0, 13, Lent { ranges: &astray, room: if r.below(2) == 0 { short } else { frames }, ..near });
+            let count = r.below(3) as u32;
+            let joined = Lent { count: Some(count), room: count as usize * frames + r.below(3) as usize, ..near };
+            let many = Lent { count: Some([MOST + 1, MOST + 2, u32::MAX][r.below(3) as usize]), ..joined };
+            self.yes_render(s, joined);
+            self.no_render(s, 0, 7, Lent { count: Some(count + 1), room: count as usize * frames + short, ..near });
+            self.no_render(s, 0, 14, many);
+            self.no_render(s, 0, 5, Lent { ranges: &distant, ..if r.below(2) == 0 { many } else { joined } });
+            self.no_render(s, 0, 13, Lent { ranges: &astray, ..if r.below(2) == 0 { many } else { joined } });
         }
     }
 

@@ -24,13 +24,17 @@ pub struct Tally {
     more: u64,
     largest: u64,
     /// Calls by the answer that they should give.
-    pub answers: [u64; 14],
+    pub answers: [u64; 15],
+    /// Sections likewise.
+    pub sections: [u64; 15],
     /// Updates with an empty input likewise.
     pub empty: [u64; 8],
     /// Opens likewise.
     pub opens: [u64; 4],
     /// Broken states tried with memory too far, a reply slice too short, frames too short and ranges that 13 refuses.
     pub before: [u64; 4],
+    /// Broken states tried with a section of too many renders.
+    pub large: u64,
     pub compared: u64,
     pub differ: u64,
 }
@@ -39,8 +43,9 @@ impl Tally {
     /// Nothing counted yet, for so many clauses.
     pub fn new(n: usize) -> Tally {
         let clauses = vec![Counts::default(); n];
-        let (pair, answers, empty, opens) = (vec![0; n * n], [0; 14], [0; 8], [0; 4]);
-        Tally { clauses, pair, states: 0, whole: 0, more: 0, largest: 0, answers, empty, opens, before: [0; 4], compared: 0, differ: 0 }
+        let (pair, answers, sections, empty, opens) = (vec![0; n * n], [0; 15], [0; 15], [0; 8], [0; 4]);
+        let [states, whole, more, largest, large, compared, differ] = [0; 7];
+        Tally { clauses, pair, states, whole, more, largest, answers, sections, empty, opens, before: [0; 4], large, compared, differ }
     }
 
     /// Counts a state by the clauses that it breaks, and by what was aimed at.
@@ -95,14 +100,16 @@ impl Tally {
         println!("{} states have the largest counts", self.largest);
         let [far, reply, frames, ranges] = self.before;
         println!("of the broken ones with memory too far {far}, with a reply slice too short {reply}, with frames too short {frames},");
-        println!("  with ranges that 13 refuses {ranges}");
-        let [yes, four, five, six, seven, thirteen] = [0, 4, 5, 6, 7, 13].map(|n| self.answers[n]);
-        println!("calls that should answer 0: {yes}, 4: {four}, 5: {five}, 6: {six}, 7: {seven}, 13: {thirteen}");
+        println!("  with ranges that 13 refuses {ranges}, with sections that 14 refuses {}", self.large);
+        let [yes, four, five, six, seven, thirteen, fourteen] = [0, 4, 5, 6, 7, 13, 14].map(|n| self.answers[n]);
+        println!("calls that should answer 0: {yes}, 4: {four}, 5: {five}, 6: {six}, 7: {seven}, 13: {thirteen}, 14: {fourteen}");
+        let sections = [0, 4, 5, 7, 13, 14].map(|n| self.sections[n]);
+        println!("of these, sections that should answer 0, 4, 5, 7, 13, 14: {sections:?}");
         let [yes_empty, _, _, _, four_empty, _, six_empty, _] = self.empty;
         println!("of these, updates with an empty input that should answer 0: {yes_empty}, 4: {four_empty}, 6: {six_empty}");
         println!("opens that should answer 0 to 3: {:?}", self.opens);
-        let others = [yes, four, five, six, seven, thirteen, far, reply, frames, ranges, self.largest];
-        if others.contains(&0) || [yes_empty, four_empty, six_empty].contains(&0) || self.opens.contains(&0) {
+        let others = [yes, four, five, six, seven, thirteen, far, reply, frames, ranges, self.large, self.largest];
+        if others.contains(&0) || sections.contains(&0) || [yes_empty, four_empty, six_empty].contains(&0) || self.opens.contains(&0) {
             never.push("an answer, or a refusal that comes after 4".into());
         }
         for name in &never {

@@ -25,9 +25,9 @@
 extern "C" {
 #endif
 
-#define JEQLLUNA_VERSION "0.6.0"
+#define JEQLLUNA_VERSION "0.7.0"
 #define JEQLLUNA_VERSION_MAJOR 0
-#define JEQLLUNA_VERSION_MINOR 6
+#define JEQLLUNA_VERSION_MINOR 7
 #define JEQLLUNA_VERSION_PATCH 0
 
 /* The bytes of stack that a call takes at most; measured, and held to by bindings/stack. */
@@ -41,13 +41,14 @@ enum {
     JEQLLUNA_STATE = 4,   /* the five slices hold no renderer */
     JEQLLUNA_MEMORY = 5,  /* base + length of a range is above 2^63 */
     JEQLLUNA_REPLY = 6,   /* the reply slice is too short */
-    JEQLLUNA_FRAMES = 7,  /* the frame slice is shorter than 2 * samples */
+    JEQLLUNA_FRAMES = 7,  /* the frame slice is shorter than 2 * samples, of a section than count * 2 * samples */
     JEQLLUNA_START = 8,   /* ADPCM: the start is above 2^60 */
     JEQLLUNA_OUTPUT = 9,  /* ADPCM: the output is shorter than count */
     /* 10 is the session program's and no answer of the library */
     JEQLLUNA_DSP_HEADER = 11, /* DSP file: fewer than 96 bytes, or format, gain or padding is not 0 */
     JEQLLUNA_DSP_LENGTH = 12, /* DSP file: the data is too short for its samples, or the output for the file */
-    JEQLLUNA_RANGES = 13 /* more than 16 ranges; a part outside memory; or a base below the end of the range before */
+    JEQLLUNA_RANGES = 13, /* more than 16 ranges; a part outside memory; or a base below the end of the range before */
+    JEQLLUNA_COUNT = 14   /* a section of more than 1,024 renders */
 };
 
 /* What a number says, in words. Never NULL. */
@@ -68,7 +69,7 @@ static inline const char *jeqlluna_refusal(uint32_t number) {
     case JEQLLUNA_REPLY:
         return "the reply slice is too short";
     case JEQLLUNA_FRAMES:
-        return "the frame slice is shorter than 2 * samples";
+        return "the frame slice is shorter than 2 * samples for each render";
     case JEQLLUNA_START:
         return "the start of an ADPCM decode is above 2^60";
     case JEQLLUNA_OUTPUT:
@@ -79,6 +80,8 @@ static inline const char *jeqlluna_refusal(uint32_t number) {
         return "the data of a DSP file is too short for its samples, or the output for the file";
     case JEQLLUNA_RANGES:
         return "there are more than 16 ranges, a part lies outside memory, or a base below the end of the range before";
+    case JEQLLUNA_COUNT:
+        return "a section has more than 1,024 renders";
     default:
         return "an unknown number";
     }
@@ -107,7 +110,7 @@ typedef struct {
 
 typedef struct {
     uint32_t number;
-    uint32_t rounds; /* rounds that the fetches of all voices took */
+    uint32_t rounds; /* rounds that the fetches of all voices took, of a section in all its renders */
 } JeqllunaRender;
 
 typedef struct {
@@ -181,6 +184,15 @@ JeqllunaUpdate jeqlluna_update(
 JeqllunaRender jeqlluna_render(
     uint32_t *words, size_t words_len, uint64_t *longs, size_t longs_len, float *floats, size_t floats_len,
     uint16_t *contexts, size_t contexts_len, float *history, size_t history_len,
+    const uint64_t *ranges, size_t ranges_len, const uint8_t *memory, size_t memory_len, float *frames, size_t frames_len);
+
+/* A section: count renders one after the other, 1,024 at most, each with the same ranges and memory. What the five slices hold after it,
+ * the frames and the sum of the rounds are those of so many calls of jeqlluna_render. Render k, counted from 0, writes the floats
+ * k * 2 * samples to (k + 1) * 2 * samples - 1 of frames; floats beyond count * 2 * samples stay. Where count is 0 the same questions are
+ * asked, no float is needed, rounds are 0 and nothing changes. Refusals, in this sequence: 4, 13, 5, 14, 7. */
+JeqllunaRender jeqlluna_render_section(
+    uint32_t *words, size_t words_len, uint64_t *longs, size_t longs_len, float *floats, size_t floats_len,
+    uint16_t *contexts, size_t contexts_len, float *history, size_t history_len, uint32_t count,
     const uint64_t *ranges, size_t ranges_len, const uint8_t *memory, size_t memory_len, float *frames, size_t frames_len);
 
 /* The sub-mixes that a render runs, in their sequence. Refusal: 4. */

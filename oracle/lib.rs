@@ -3,6 +3,7 @@ pub mod dsp;
 pub mod mixer;
 pub mod ranges;
 pub mod renderer;
+pub mod sections;
 pub mod session;
 
 use std::cell::Cell;

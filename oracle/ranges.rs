@@ -1,5 +1,5 @@
 //! Sample memory in ranges, by document 02's fifth request: what stands where kirikae has guest memory, read byte by byte, and the
-//! questions that a render puts to it.
+//! questions that a render or a section, by the sixth, puts to it and to what else it is given.
 use crate::mixer::Mem;
 use std::cell::RefCell;
 
@@ -74,7 +74,7 @@ impl Mem for Ranges<'_> {
     }
 }
 
-/// Why a render is refused.
+/// Why a render or a section is refused.
 #[derive(Clone, Copy, Debug, PartialEq)]
 pub enum Reason {
     /// There are more than 16 ranges.
@@ -85,6 +85,8 @@ pub enum Reason {
     Below,
     /// A range ends above 2^63.
     Far,
+    /// There are more than 1,024 renders.
+    Count,
     /// The frame slice is too short.
     Frames,
 }
@@ -95,19 +97,21 @@ impl Reason {
         match self {
             Reason::Many | Reason::Part | Reason::Below => 13,
             Reason::Far => 5,
+            Reason::Count => 14,
             Reason::Frames => 7,
         }
     }
 }
 
-/// All reasons to refuse a render with these ranges of so many bytes, and room for so many floats where `floats` are made, in the sequence
-/// in which they are asked. The state is whole.
-pub fn reasons(ranges: &[Range], bytes: usize, room: usize, floats: usize) -> Vec<Reason> {
+/// All reasons to refuse so many renders with these ranges of so many bytes, and room for so many floats where `floats` are made, in the
+/// sequence in which they are asked. The state is whole.
+pub fn reasons(ranges: &[Range], bytes: usize, count: u32, room: usize, floats: usize) -> Vec<Reason> {
     let asked = [
         (Reason::Many, ranges.len() > 16),
         (Reason::Part, ranges.iter().any(|r| r.part_end() > bytes as u128)),
         (Reason::Below, ranges.windows(2).any(|pair| u128::from(pair[1].base) < pair[0].end())),
         (Reason::Far, ranges.iter().any(|r| r.end() > 1 << 63)),
+        (Reason::Count, count > 1024),
         (Reason::Frames, room < floats),
     ];
     asked.into_iter().filter(|(_, holds)| *holds).map(|(reason, _)| reason).collect()
@@ -160,10 +164,10 @@ mod tests {
 
     #[test]
     fn refusals() {
-        use Reason::{Below, Far, Frames, Many, Part};
+        use Reason::{Below, Count, Far, Frames, Many, Part};
         const END: u64 = 1 << 63;
         const LAST: u64 = u64::MAX;
-        let asked = |numbers: &[u64], room: usize| reasons(&parse(numbers), 8, room, 4);
+        let asked = |numbers: &[u64], room: usize| reasons(&parse(numbers), 8, 1, room, 4);
         let empty = |n: usize| [9, 8, 0].repeat(n);
         assert_eq!(asked(&[], 4), []);
         assert_eq!(asked(&empty(16), 4), []);
@@ -179,6 +183,9 @@ mod tests {
         assert_eq!(asked(&[END - 7, 0, 8], 4), [Far]);
         assert_eq!(asked(&[5, 0, 8, END, 0, 1], 3), [Far, Frames]);
         assert_eq!(asked(&[LAST, 1, LAST, 0, 0, 0], 0), [Part, Below, Far, Frames]);
-        assert_eq!([Many, Part, Below, Far, Frames].map(Reason::number), [13, 13, 13, 5, 7]);
+        assert_eq!(reasons(&[], 8, 1024, 4096, 4096), []);
+        assert_eq!(reasons(&[], 8, 1025, 4100, 4100), [Count]);
+        assert_eq!(reasons(&parse(&[END, 0, 1]), 8, u32::MAX, 0, 1), [Far, Count, Frames]);
+        assert_eq!([Many, Part, Below, Far, Count, Frames].map(Reason::number), [13, 13, 13, 5, 14, 7]);
     }
 }

@@ -20,7 +20,7 @@ pub fn lengths(parameters: &[u8]) -> Result<[usize; 5], u32> {
 
 /// A renderer that was opened, and the list into which it renders.
 pub struct Session {
-    renderer: Probe,
+    pub(crate) renderer: Probe,
     samples: usize,
     frames: Vec<[f32; 2]>,
 }
@@ -60,17 +60,21 @@ impl Session {
         Ok(self.renderer.update(input, expected as usize))
     }
 
-    /// All reasons to refuse a render with the ranges of these numbers, so many bytes of memory and so much room.
-    pub fn reasons(&self, numbers: &[u64], bytes: usize, room: usize) -> Vec<Reason> {
-        reasons(&parse(numbers), bytes, room, 2 * self.samples)
+    /// All reasons to refuse so many renders with the ranges of these numbers, so many bytes of memory and so much room.
+    pub fn reasons(&self, numbers: &[u64], bytes: usize, count: u32, room: usize) -> Vec<Reason> {
+        reasons(&parse(numbers), bytes, count, room, count as usize * 2 * self.samples)
     }
 
-    /// A render with the ranges of these numbers and this much room for the frames: left and right by turns, and the rounds. All of memory
-    /// at a base is read by document 01's stand-in.
+    /// A render with the ranges of these numbers and this much room for the frames: left and right by turns, and the rounds.
     pub fn render(&mut self, numbers: &[u64], memory: &[u8], room: usize) -> Result<(Vec<f32>, u64), u32> {
-        if let Some(reason) = self.reasons(numbers, memory.len(), room).first() {
+        if let Some(reason) = self.reasons(numbers, memory.len(), 1, room).first() {
             return Err(reason.number());
         }
+        Ok(self.rendered(numbers, memory))
+    }
+
+    /// A render that isn't refused. All of memory at a base is read by document 01's stand-in.
+    pub(crate) fn rendered(&mut self, numbers: &[u64], memory: &[u8]) -> (Vec<f32>, u64) {
         take_rounds();
         match parse(numbers)[..] {
             [r] if (r.start, r.length) == (0, memory.len() as u64) => {
@@ -78,7 +82,7 @@ impl Session {
             }
             ref ranges => self.renderer.render_into(&Ranges { ranges, bytes: memory }, &mut self.frames),
         }
-        Ok((self.frames.iter().flatten().copied().collect(), take_rounds()))
+        (self.frames.iter().flatten().copied().collect(), take_rounds())
     }
 }
 

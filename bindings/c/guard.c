@@ -13,9 +13,10 @@
 #include "title.h"
 
 #define REPLY 20000 /* the longest reply for which there is room */
+#define RENDERS 4   /* the longest section for which there is room */
 
 static long calls = 0;
-static long answers[JEQLLUNA_RANGES + 1]; /* of renders in any ranges, by number */
+static long answers[JEQLLUNA_COUNT + 1]; /* of renders and sections in any ranges, by number */
 
 static void hold(const char *what, int same) {
     calls++;
@@ -64,16 +65,25 @@ static void update(Desk *g, Desk *plain, const Counts *c, const uint8_t *title, 
     release(out);
 }
 
-/* Memory at once, cut into ranges that touch, or in any ranges, of which some are refused. */
-static void render(Desk *g, Desk *plain, const Counts *c, Region memory, const uint8_t *bytes, int at_end, uint64_t *seed) {
-    float expected[512], *frames;
+/* A render, or a section of up to RENDERS or of too many; memory at once, cut into ranges that touch, or in any ranges, of which some are
+ * refused. */
+static void render(Desk *g, Desk *plain, const Counts *c, Region memory, const uint8_t *bytes, int section, int at_end, uint64_t *seed) {
+    static float expected[RENDERS * 512];
+    float *frames;
     uint64_t numbers[NUMBERS_MOST];
     uint8_t slice[MEMORY];
-    uint32_t kind = below(seed, 3);
-    size_t n = 2 * c->samples - (below(seed, 16) == 0), size = below(seed, 8) == 0 ? below(seed, MEMORY + 1) : MEMORY, count = RANGE;
+    uint32_t kind = below(seed, 3), renders = !section ? 1 : below(seed, 16) == 0 ? 1025 : below(seed, RENDERS + 1), due = JEQLLUNA_OK;
+    size_t n = 2 * c->samples * (size_t)(renders > RENDERS ? RENDERS : renders), count = RANGE;
+    size_t size = below(seed, 8) == 0 ? below(seed, MEMORY + 1) : MEMORY;
     Region out = region(sizeof expected), by = region(sizeof numbers);
     const uint64_t *ranges;
     JeqllunaRender a, b;
+    if (renders > 1024) {
+        due = JEQLLUNA_COUNT;
+    } else if (n > 0 && below(seed, 16) == 0) {
+        n--;
+        due = JEQLLUNA_FRAMES;
+    }
     memcpy(slice, bytes, MEMORY);
     put_range(numbers, BASE, 0, size);
     if (kind == 1) {
@@ -86,11 +96,16 @@ static void render(Desk *g, Desk *plain, const Counts *c, Region memory, const u
     frames = (float *)(void *)place(out, n * sizeof *frames, at_end);
     memset(frames, 0x5a, n * sizeof *frames);
     memset(expected, 0x5a, sizeof expected);
-    a = desk_render_ranges(g, ranges, count, lend(memory, slice, size, at_end), size, frames, n);
-    b = desk_render_ranges(plain, numbers, count, slice, size, expected, n);
+    if (section) {
+        a = desk_section(g, renders, ranges, count, lend(memory, slice, size, at_end), size, frames, n);
+        b = desk_section(plain, renders, numbers, count, slice, size, expected, n);
+    } else {
+        a = desk_render_ranges(g, ranges, count, lend(memory, slice, size, at_end), size, frames, n);
+        b = desk_render_ranges(plain, numbers, count, slice, size, expected, n);
+    }
     hold("render", a.number == b.number && a.rounds == b.rounds);
     answers[kind == 2 ? a.number : 0]++;
-    hold("render", kind == 2 || a.number == (n < 2 * c->samples ? (uint32_t)JEQLLUNA_FRAMES : 0u));
+    hold("render", kind == 2 || a.number == due);
     hold("frames", memcmp(frames, expected, n * sizeof *frames) == 0 && same_desks(g, plain));
     release(out);
     release(by);
@@ -184,7 +199,10 @@ static void session(const Counts *c, int at_end, uint64_t seed) {
         if (k % 4 == 2) {
             update(&g, &plain, c, title, 0, at_end, &seed); /* no input */
         }
-        render(&g, &plain, c, memory, bytes, at_end, &seed);
+        render(&g, &plain, c, memory, bytes, 0, at_end, &seed);
+        if (k % 4 == 3) {
+            render(&g, &plain, c, memory, bytes, 1, at_end, &seed);
+        }
         decode(at_end, &seed);
         dsp(at_end, &seed);
     }
@@ -221,7 +239,10 @@ int main(int argc, char **argv) {
     if (sessions >= 40 && (answers[JEQLLUNA_MEMORY] == 0 || answers[JEQLLUNA_FRAMES] == 0 || answers[JEQLLUNA_RANGES] == 0)) {
         fail("no render in ranges is refused by 5, by 7 or by 13");
     }
-    printf("%ld comparisons between guard pages; renders in ranges refused by 5, 7, 13: %ld, %ld, %ld\n", calls, answers[JEQLLUNA_MEMORY],
-           answers[JEQLLUNA_FRAMES], answers[JEQLLUNA_RANGES]);
+    if (sessions >= 40 && answers[JEQLLUNA_COUNT] == 0) {
+        fail("no section in ranges is refused by 14");
+    }
+    printf("%ld comparisons between guard pages; renders in ranges refused by 5, 7, 13, 14: %ld, %ld, %ld, %ld\n", calls,
+           answers[JEQLLUNA_MEMORY], answers[JEQLLUNA_FRAMES], answers[JEQLLUNA_RANGES], answers[JEQLLUNA_COUNT]);
     return 0;
 }

@@ -1,7 +1,7 @@
 /* What happens in another floating-point mode than the one that the proofs assume: mode [SESSIONS]. The same sessions in each mode, the
- * mode set around the library's calls alone; prints how many calls gave something else than in the mode assumed, and how many were ended
- * by SIGFPE. It fails where a session in the mode assumed is not the same twice, where an answer's number or a reply's length differs
- * while exceptions are masked, and where a mode said to matter (include/jeqlluna.h) makes no difference. */
+ * last call of each a section, the mode set around the library's calls alone; prints how many calls gave something else than in the mode
+ * assumed, and how many were ended by SIGFPE. It fails where a session in the mode assumed is not the same twice, where an answer's number
+ * or a reply's length differs while exceptions are masked, and where a mode said to matter (include/jeqlluna.h) makes no difference. */
 #ifndef _GNU_SOURCE
 #define _GNU_SOURCE 1
 #endif
@@ -15,7 +15,8 @@
 
 #include "title.h"
 
-#define CALLS 14
+#define CALLS 15
+#define SECTION 8 /* renders of the last call */
 #define ASSUMED 0x1f80u /* MXCSR: exceptions masked, to nearest, nothing flushed */
 
 typedef struct {
@@ -75,7 +76,8 @@ static int session(const Mode *m, uint64_t seed, Gave gave[CALLS]) {
     static const int formats[] = {2, 5, 6};
     static const float volumes[] = {1.0f, 0.7f, 1.3f, 1e-20f, 1e-38f, 1e-42f};
     static uint8_t reply[20000], title[200000];
-    static float frames[512];
+    static float frames[SECTION * 512];
+    const uint64_t range[3] = {BASE, 0, MEMORY};
     Counts c = SMALL;
     Sound sound;
     static Desk d;
@@ -108,12 +110,14 @@ static int session(const Mode *m, uint64_t seed, Gave gave[CALLS]) {
         }
         if (g->render) {
             JeqllunaRender r;
+            uint32_t renders = k == CALLS - 1 ? SECTION : 1;
             set(m);
-            r = desk_render(&d, memory, MEMORY, frames, 512);
+            r = renders == 1 ? desk_render(&d, memory, MEMORY, frames, 512)
+                             : desk_section(&d, renders, range, 3, memory, MEMORY, frames, SECTION * 512);
             reset();
             g->number = r.number;
             g->rounds = r.rounds;
-            g->data = sum(1, frames, 2 * c.samples * sizeof *frames);
+            g->data = sum(1, frames, renders * 2 * c.samples * sizeof *frames);
         } else {
             JeqllunaUpdate u;
             set(m);

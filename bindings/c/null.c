@@ -60,6 +60,8 @@ static void short_slices(const Counts *counts) {
             hold("open", desk_open(&d, p, sizeof p), JEQLLUNA_LENGTHS);
             hold("update", desk_update(&d, 0, NULL, 0, reply, 0).number, JEQLLUNA_STATE);
             hold("render", desk_render(&d, NULL, 0, frames, 0).number, JEQLLUNA_STATE);
+            hold("section", desk_section(&d, 1025, NULL, 0, NULL, 0, NULL, 0).number, JEQLLUNA_STATE);
+            hold("section of none", desk_section(&d, 0, NULL, 0, NULL, 0, NULL, 0).number, JEQLLUNA_STATE);
         } else {
             hold("open", desk_open(&d, p, sizeof p), JEQLLUNA_OK);
         }
@@ -72,6 +74,26 @@ static void short_slices(const Counts *counts) {
     }
     close_desk(&whole);
     close_desk(&before);
+}
+
+/* Sections without ranges, memory or frames on two desks that hold the same; those of no render need none of them and change nothing. */
+static void sections_of(Desk *a, Desk *b, const uint8_t *memory) {
+    static float frames[1024], others[1024];
+    const uint64_t range[3] = {BASE, 0, 0}, longer[3] = {BASE, 0, 1}, whole[3] = {BASE, 0, 64};
+    hold("section without frames", desk_section(a, 1, whole, 3, memory, 64, NULL, 0).number, JEQLLUNA_FRAMES);
+    hold("section without anything", desk_section(a, 2, NULL, 0, NULL, 0, NULL, 0).number, JEQLLUNA_FRAMES);
+    hold("section of too many without anything", desk_section(a, 1025, NULL, 0, NULL, 0, NULL, 0).number, JEQLLUNA_COUNT);
+    hold("section of none, a range without memory", desk_section(a, 0, longer, 3, NULL, 0, NULL, 0).number, JEQLLUNA_RANGES);
+    hold("section of none without frames", desk_section(a, 0, whole, 3, memory, 64, NULL, 0).number, JEQLLUNA_OK);
+    hold("section of none without anything", desk_section(a, 0, NULL, 0, NULL, 0, NULL, 0).number, JEQLLUNA_OK);
+    hold("state", same_desks(a, b), 1);
+    hold("section without memory", desk_section(a, 2, range, 3, NULL, 0, frames, 1024).rounds,
+         desk_section(b, 2, range, 3, memory, 0, others, 1024).rounds);
+    hold("section without ranges", desk_section(a, 2, NULL, 0, memory, 64, frames, 1024).rounds,
+         desk_section(b, 2, range, 0, memory, 64, others, 1024).rounds);
+    hold("section without both", desk_section(a, 1, NULL, 0, NULL, 0, frames, 1024).rounds,
+         desk_section(b, 1, range, 3, NULL, 0, others, 1024).rounds);
+    hold("frames", memcmp(frames, others, sizeof frames) == 0, 1);
 }
 
 /* No input, no sample memory, no ranges, no reply and no frames, each alone and together, for voices that play. */
@@ -109,6 +131,7 @@ static void calls_of(const Counts *counts) {
     hold("render without frames", desk_render(&a, title, 1, NULL, 0).number, JEQLLUNA_FRAMES);
     hold("render without both", desk_render(&a, NULL, 0, NULL, 0).number, JEQLLUNA_FRAMES);
     hold("render without anything", desk_render_ranges(&a, NULL, 0, NULL, 0, NULL, 0).number, JEQLLUNA_FRAMES);
+    sections_of(&a, &b, title);
     hold("state", same_desks(&a, &b), 1);
     close_desk(&a);
     close_desk(&b);

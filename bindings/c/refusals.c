@@ -81,6 +81,8 @@ static void state_refused(void) {
         expect("update", u.number, JEQLLUNA_STATE, u.size != 0 || !marked(reply, sizeof reply));
         r = desk_render(&d, NULL, 0, frames, 32);
         expect("render", r.number, JEQLLUNA_STATE, r.rounds != 0 || !marked(frames, sizeof frames));
+        r = desk_section(&d, (uint32_t)k, NULL, 0, NULL, 0, frames, 32);
+        expect("section", r.number, JEQLLUNA_STATE, r.rounds != 0 || !marked(frames, sizeof frames));
         expect("open", desk_open(&d, p, sizeof p), k == 5 ? JEQLLUNA_OK : JEQLLUNA_LENGTHS, 0);
         if (k < 5) {
             expect("state", 0, 0, !marked(d.words, d.n.words * 4) || !marked(d.longs, d.n.longs * 8) || !marked(d.floats, d.n.floats * 4));
@@ -90,7 +92,8 @@ static void state_refused(void) {
     }
 }
 
-/* Ranges, memory, reply and frames, in the order in which they are asked; bindings/c/ranges.c has each reason for 13. */
+/* Ranges, memory, a section's count, reply and frames, in the order in which they are asked; bindings/c/ranges.c has each reason for 13,
+ * bindings/c/sections.c each pair of a section's. */
 static void rooms_refused(void) {
     uint8_t reply[1000], memory[16] = {0};
     uint64_t range[RANGE];
@@ -98,19 +101,22 @@ static void rooms_refused(void) {
     Desk d = open_desk(&MIDDLE), before = open_desk(&MIDDLE);
     JeqllunaUpdate u;
     JeqllunaRender r;
+    int k;
     memset(reply, 0x5a, sizeof reply);
     memset(frames, 0x5a, sizeof frames);
     u = desk_update(&d, 0xffffffff, NULL, 0, reply, sizeof reply);
     expect("update", u.number, JEQLLUNA_REPLY, u.size != 0 || !marked(reply, sizeof reply) || !same_desks(&d, &before));
-    put_range(range, ((uint64_t)1 << 63) - 15, 1, 16);
-    r = desk_render_ranges(&d, range, RANGE, memory, 16, frames, 31);
-    expect("render", r.number, JEQLLUNA_RANGES, !marked(frames, sizeof frames) || !same_desks(&d, &before));
-    put_range(range, ((uint64_t)1 << 63) - 15, 0, 16);
-    r = desk_render_ranges(&d, range, RANGE, memory, 16, frames, 31);
-    expect("render", r.number, JEQLLUNA_MEMORY, !marked(frames, sizeof frames) || !same_desks(&d, &before));
-    put_range(range, ((uint64_t)1 << 63) - 16, 0, 16);
-    r = desk_render_ranges(&d, range, RANGE, memory, 16, frames, 31);
-    expect("render", r.number, JEQLLUNA_FRAMES, !marked(frames, sizeof frames) || !same_desks(&d, &before));
+    for (k = 0; k < 3; k++) {
+        static const uint32_t numbers[] = {JEQLLUNA_RANGES, JEQLLUNA_MEMORY, JEQLLUNA_FRAMES};
+        put_range(range, ((uint64_t)1 << 63) - 15 - (k == 2), k == 0, 16);
+        r = desk_render_ranges(&d, range, RANGE, memory, 16, frames, 31);
+        expect("render", r.number, numbers[k], r.rounds != 0 || !marked(frames, sizeof frames) || !same_desks(&d, &before));
+        r = desk_section(&d, 1025, range, RANGE, memory, 16, frames, 31);
+        expect("section", r.number, k < 2 ? numbers[k] : (uint32_t)JEQLLUNA_COUNT,
+               r.rounds != 0 || !marked(frames, sizeof frames) || !same_desks(&d, &before));
+        r = desk_section(&d, 1024, range, RANGE, memory, 16, frames, 31);
+        expect("section", r.number, numbers[k], r.rounds != 0 || !marked(frames, sizeof frames) || !same_desks(&d, &before));
+    }
     close_desk(&d);
     close_desk(&before);
 }

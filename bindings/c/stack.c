@@ -17,11 +17,14 @@
 #define NEAR 512u /* the frame of the function that paints; a call that takes less is not told from it */
 #define PAINT 0x9e3779b97f4a7c15u
 
-enum { LENGTHS, REPLY_LENGTH, OPEN, UPDATE, RENDER, ORDER, DECODE, READ_DSP, WRITE_DSP };
-static const char *const names[] = {"lengths", "reply length", "open", "update", "render", "mix order", "decode", "read DSP", "write DSP"};
+#define RENDERS 2 /* of a section */
+
+enum { LENGTHS, REPLY_LENGTH, OPEN, UPDATE, RENDER, SECTION, ORDER, DECODE, READ_DSP, WRITE_DSP };
+static const char *const names[] = {
+    "lengths", "reply length", "open", "update", "render", "section", "mix order", "decode", "read DSP", "write DSP"};
 
 typedef struct {
-    int call, cut; /* cut: whether a render's memory is in ranges that touch */
+    int call, cut; /* cut: whether the memory of a render or section is in ranges that touch */
     const Counts *counts;
     Desk *desk;
     const uint8_t *title;
@@ -33,7 +36,7 @@ static uint64_t *low; /* the lowest place of the stack */
 static uint8_t memory[MEMORY], slice[MEMORY], reply[20000], parameters[JEQLLUNA_PARAMETERS];
 static uint64_t ranges[NUMBERS_MOST];
 static size_t numbers; /* of the ranges */
-static float frames[512];
+static float frames[RENDERS * 512];
 static size_t deepest = 0;
 
 /* The calls for DSP files, apart, so that their larger answers are not counted for other calls. */
@@ -45,6 +48,7 @@ __attribute__((noinline)) static void file_call(Work *w) {
 
 static void call(Work *w) {
     static const int16_t pairs[16] = {2048, 0, 1024, 512};
+    static const uint64_t whole[RANGE] = {BASE, 0, MEMORY};
     const JeqllunaContext context = {0, 0, 0};
     Desk *d = w->desk;
     switch (w->call) {
@@ -63,6 +67,11 @@ static void call(Work *w) {
     case RENDER:
         w->number = w->cut ? desk_render_ranges(d, ranges, numbers, slice, MEMORY, frames, 512).number
                            : desk_render(d, memory, MEMORY, frames, 512).number;
+        break;
+    case SECTION:
+        w->number = desk_section(d, RENDERS, w->cut ? ranges : whole, w->cut ? numbers : RANGE, w->cut ? slice : memory, MEMORY, frames,
+                                 RENDERS * 512)
+                        .number;
         break;
     case ORDER:
         w->number = jeqlluna_mix_order(
@@ -134,14 +143,14 @@ static void desk(const char *name, const Counts *c) {
         Sound sound;
         int cut;
     } plays[] = {
-        {"render, PCM16 at ratio 1", {2, 1.0f, 0.5f}, 0},
-        {"render, PCM16 at ratio 0.9", {2, 0.9f, 0.5f}, 0},
-        {"render, ADPCM at ratio 1", {6, 1.0f, 0.5f}, 0},
-        {"render, ADPCM at ratio 16", {6, 16.0f, 0.5f}, 0},
-        {"render, float at ratio 16", {5, 16.0f, 0.5f}, 0},
-        {"render, PCM16 in ranges", {2, 1.0f, 0.5f}, 1},
-        {"render, ADPCM in ranges", {6, 16.0f, 0.5f}, 1},
-        {"render, float in ranges", {5, 16.0f, 0.5f}, 1},
+        {"PCM16 at ratio 1", {2, 1.0f, 0.5f}, 0},
+        {"PCM16 at ratio 0.9", {2, 0.9f, 0.5f}, 0},
+        {"ADPCM at ratio 1", {6, 1.0f, 0.5f}, 0},
+        {"ADPCM at ratio 16", {6, 16.0f, 0.5f}, 0},
+        {"float at ratio 16", {5, 16.0f, 0.5f}, 0},
+        {"PCM16 in ranges", {2, 1.0f, 0.5f}, 1},
+        {"ADPCM in ranges", {6, 16.0f, 0.5f}, 1},
+        {"float in ranges", {5, 16.0f, 0.5f}, 1},
     };
     uint8_t *title = (uint8_t *)room(title_size(c));
     Desk d = open_desk(c);
@@ -164,9 +173,12 @@ static void desk(const char *name, const Counts *c) {
         } else {
             call(&w);
         }
-        w.call = RENDER;
         w.cut = plays[k].cut;
-        print(name, plays[k].name, measure(w, 4));
+        for (w.call = RENDER; w.call <= SECTION; w.call++) {
+            char what[40];
+            sprintf(what, "%s, %s", names[w.call], plays[k].name);
+            print(name, what, measure(w, 4));
+        }
     }
     w.call = ORDER;
     print(name, names[ORDER], measure(w, 1));

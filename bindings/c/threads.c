@@ -1,5 +1,5 @@
 /* Eight threads, each with its own renderer and DSP files, all with the same sample memory, give the frames, replies, states and files that
- * each gives alone: threads [RENDERS]. */
+ * each gives alone: threads [RENDERS]. Every fourth render is a section of two. */
 #ifndef _GNU_SOURCE
 #define _GNU_SOURCE 1
 #endif
@@ -40,9 +40,10 @@ static void *run(void *given) {
     uint64_t seed = w->seed, s = 1;
     const Counts *c = w->seed % 2 == 0 ? &MIDDLE : &SMALL;
     Sound sound = {formats[w->seed % 3], 0.5f + (float)(w->seed % 7) / 4.0f, 0.75f};
+    const uint64_t range[3] = {BASE, 0, MEMORY};
     size_t size = title_size(c), n = 2 * c->samples;
     uint8_t *title = (uint8_t *)room(size), *reply = (uint8_t *)room(20000);
-    float *frames = (float *)room(n * sizeof *frames);
+    float *frames = (float *)room(2 * n * sizeof *frames);
     Desk d = open_desk(c);
     long k;
     if (w->together) {
@@ -59,11 +60,11 @@ static void *run(void *given) {
             }
             s = sum(s, reply, u.size);
         }
-        r = desk_render(&d, memory, MEMORY, frames, n);
+        r = k % 4 == 3 ? desk_section(&d, 2, range, 3, memory, MEMORY, frames, 2 * n) : desk_render(&d, memory, MEMORY, frames, n);
         if (r.number != 0) {
             fail("render: %s", jeqlluna_refusal(r.number));
         }
-        s = sum(s, frames, n * sizeof *frames);
+        s = sum(s, frames, (k % 4 == 3 ? 2 * n : n) * sizeof *frames);
         s = sum(s, &r.rounds, sizeof r.rounds);
         s = dsp(s, &seed);
     }

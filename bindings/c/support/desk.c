@@ -68,6 +68,13 @@ JeqllunaRender desk_render_ranges(
         numbers, memory, length, frames, count);
 }
 
+JeqllunaRender desk_section(
+    Desk *d, uint32_t renders, const uint64_t *ranges, size_t numbers, const uint8_t *memory, size_t length, float *frames, size_t count) {
+    return jeqlluna_render_section(
+        d->words, d->n.words, d->longs, d->n.longs, d->floats, d->n.floats, d->contexts, d->n.contexts, d->history, d->n.history, renders,
+        ranges, numbers, memory, length, frames, count);
+}
+
 Desk open_desk(const Counts *c) {
     uint8_t parameters[JEQLLUNA_PARAMETERS];
     Desk d;

@@ -55,6 +55,10 @@ JeqllunaRender desk_render(Desk *d, const uint8_t *memory, size_t length, float 
 JeqllunaRender desk_render_ranges(
     Desk *d, const uint64_t *ranges, size_t numbers, const uint8_t *memory, size_t length, float *frames, size_t count);
 
+/* A section of so many renders with any ranges, by their numbers. */
+JeqllunaRender desk_section(
+    Desk *d, uint32_t renders, const uint64_t *ranges, size_t numbers, const uint8_t *memory, size_t length, float *frames, size_t count);
+
 /* Whether two renderers hold the same, bit for bit, and what one holds as a number to compare. */
 int same_desks(const Desk *a, const Desk *b);
 uint64_t desk_sum(const Desk *d);

@@ -1,5 +1,5 @@
-//! Bad input never ends a process: a million updates with random and hostile numbers, positions, renders with any ranges and DSP files in
-//! between, under a limit of 256 MB of memory.
+//! Bad input never ends a process: a million updates with random and hostile numbers, positions, renders with any ranges, sections of any
+//! count and DSP files in between, under a limit of 256 MB of memory.
 //!
 //!     cargo build --release --example hostile && prlimit --as=268435456 target/release/examples/hostile [UPDATES]
 //!
@@ -169,6 +169,26 @@ fn next(renderer: &Renderer, memory: &[u8]) -> (Vec<u32>, Vec<u8>) {
     (frames.iter().map(|x| x.to_bits()).collect(), r.update(0, &[], LIMIT).expect("the shortest reply"))
 }
 
+/// A render, or a section of any count, with any ranges and mostly enough room; how many that were refused were looked at.
+fn renders(r: &mut Random, renderer: &mut Renderer, memory: &[u8], tally: &mut BTreeMap<(&'static str, u32), u64>) -> u64 {
+    let mut frames = [0.0; 2048];
+    let (ranges, before) = (ranges(r, memory), (r.below(64) == 0).then(|| renderer.clone()));
+    let answer = if r.below(4) == 0 {
+        let (renders, room) = (if r.below(2) == 0 { r.number() } else { r.below(5) as u32 }, r.below(2049));
+        let answer = renderer.render_section(renders, &ranges, memory, &mut frames[..room]);
+        count(tally, "section", &answer);
+        answer
+    } else {
+        let room = if r.below(16) == 0 { r.below(513) } else { 512 };
+        let answer = renderer.render(&ranges, memory, &mut frames[..room]);
+        count(tally, "render", &answer);
+        answer
+    };
+    let (Some(before), Err(_)) = (before, answer) else { return 0 };
+    assert_eq!(next(&before, memory), next(renderer, memory), "a refusal changed something");
+    1
+}
+
 /// Counts an answer by its kind of call and its number.
 fn count<T>(tally: &mut BTreeMap<(&'static str, u32), u64>, call: &'static str, answer: &Result<T, Refusal>) {
     *tally.entry((call, answer.as_ref().err().map_or(0, |e| e.number()))).or_default() += 1;
@@ -212,15 +232,7 @@ fn main() -> ExitCode {
             }
             files(r, &mut tally);
             if r.below(4) == 0 {
-                let mut frames = [0.0; 512];
-                let (ranges, room) = (ranges(r, &memory), if r.below(16) == 0 { r.below(513) } else { 512 });
-                let before = (r.below(64) == 0).then(|| renderer.clone());
-                let answer = renderer.render(&ranges, &memory, &mut frames[..room]);
-                count(&mut tally, "render", &answer);
-                if let (Some(before), Err(_)) = (before, answer) {
-                    looked += 1;
-                    assert_eq!(next(&before, &memory), next(&renderer, &memory), "a refusal changed something");
-                }
+                looked += renders(r, &mut renderer, &memory, &mut tally);
             }
         }
     }
@@ -233,6 +245,7 @@ fn main() -> ExitCode {
         ("positions", &[0]),
         ("read_dsp", &[0, 11, 12]),
         ("render", &[0, 5, 7, 13]),
+        ("section", &[0, 5, 7, 13, 14]),
         ("update", &[0, 6]),
         ("write_dsp", &[0, 11, 12]),
     ];

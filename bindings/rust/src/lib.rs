@@ -18,7 +18,8 @@
 //!
 //! An update without input, as here, changes nothing and tells how far the voices have played; [`Renderer::positions`] reads its reply.
 //!
-//! Sample memory is one slice in up to 16 ranges, each a [`Range`]; [`Range::whole`] is all of it.
+//! Sample memory is one slice in up to 16 ranges, each a [`Range`]; [`Range::whole`] is all of it. [`Renderer::render_section`] makes many
+//! renders in one call.
 //!
 //! [`decode_adpcm`], [`read_dsp`] and [`write_dsp`] need no renderer: ADPCM alone, and clips as DSP files.
 //!

@@ -17,7 +17,7 @@ pub enum Refusal {
     Memory,
     /// 6: the reply slice is too short, or the reply longer than the limit that was given.
     Reply,
-    /// 7: the frame slice is shorter than 2 × samples.
+    /// 7: the frame slice is shorter than 2 × samples for each render.
     Frames,
     /// 8: the start of an ADPCM decode is above 2^60.
     Start,
@@ -29,6 +29,8 @@ pub enum Refusal {
     DspLength,
     /// 13: there are more than 16 ranges, a part lies outside memory, or a base below the end of the range before.
     Ranges,
+    /// 14: a section has more than 1,024 renders.
+    Count,
     /// A number that this version of the crate does not know, from a library of another version.
     Other(u32),
 }
@@ -49,6 +51,7 @@ impl Refusal {
             Refusal::DspHeader => 11,
             Refusal::DspLength => 12,
             Refusal::Ranges => 13,
+            Refusal::Count => 14,
             Refusal::Other(number) => number,
         }
     }
@@ -69,6 +72,7 @@ impl Refusal {
             11 => Refusal::DspHeader,
             12 => Refusal::DspLength,
             13 => Refusal::Ranges,
+            14 => Refusal::Count,
             number => Refusal::Other(number),
         })
     }
@@ -82,12 +86,13 @@ impl Refusal {
             Refusal::State => "the five slices hold no renderer",
             Refusal::Memory => "a range of sample memory ends above 2^63",
             Refusal::Reply => "the reply slice is too short",
-            Refusal::Frames => "the frame slice is shorter than 2 * samples",
+            Refusal::Frames => "the frame slice is shorter than 2 * samples for each render",
             Refusal::Start => "the start of an ADPCM decode is above 2^60",
             Refusal::Output => "the output of an ADPCM decode is shorter than the count",
             Refusal::DspHeader => "a DSP file has no whole header, or format, gain or padding is not 0",
             Refusal::DspLength => "the data of a DSP file is too short for its samples, or the output for the file",
             Refusal::Ranges => "there are more than 16 ranges, a part lies outside memory, or a base below the end of the range before",
+            Refusal::Count => "a section has more than 1,024 renders",
             Refusal::Other(_) => "an unknown number",
         }
     }

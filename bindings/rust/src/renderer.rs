@@ -141,6 +141,53 @@ impl Renderer {
         Ok(r.rounds)
     }
 
+    /// A section: so many renders, 1,024 at most, one after the other, each with the same ranges and memory, to the front of `frames`, 2 ×
+    /// samples floats for each; floats beyond them stay. Frames, what the renderer holds and the rounds, in sum, are those of so many calls
+    /// of [`Renderer::render`]. A section of 0 changes nothing and needs no float.
+    ///
+    /// ```
+    /// use jeqlluna::{Parameters, Range, Renderer, revision};
+    ///
+    /// let parameters = Parameters { samples: 240, voices: 2, revision: revision(8), ..Parameters::default() };
+    /// let mut renderer = Renderer::open(&parameters)?;
+    /// let (memory, mut frames) = ([0; 4096], [0.0; 8 * 480]);
+    /// renderer.render_section(8, &[Range::whole(0x10000, &memory)], &memory, &mut frames)?;
+    /// for render in frames.chunks(480) {
+    ///     // 240 frames, left and right by turns.
+    /// #   assert_eq!(render, [0.0; 480]);
+    /// }
+    /// # Ok::<(), jeqlluna::Refusal>(())
+    /// ```
+    ///
+    /// Refused by 13, 5, 14 (the count) and 7, in this sequence.
+    pub fn render_section(&mut self, count: u32, ranges: &[Range], memory: &[u8], frames: &mut [f32]) -> Result<u32, Refusal> {
+        // SAFETY: each pointer and count are those of one slice, the ranges' that of their numbers, three of 64 bits each and nothing
+        // between; the six that are written are borrowed here alone.
+        let r = mode::ordered(|| unsafe {
+            sys::jeqlluna_render_section(
+                self.words.as_mut_ptr(),
+                self.words.len(),
+                self.longs.as_mut_ptr(),
+                self.longs.len(),
+                self.floats.as_mut_ptr(),
+                self.floats.len(),
+                self.contexts.as_mut_ptr(),
+                self.contexts.len(),
+                self.history.as_mut_ptr(),
+                self.history.len(),
+                count,
+                ranges.as_ptr().cast(),
+                NUMBERS * ranges.len(),
+                memory.as_ptr(),
+                memory.len(),
+                frames.as_mut_ptr(),
+                frames.len(),
+            )
+        });
+        Refusal::check(r.number)?;
+        Ok(r.rounds)
+    }
+
     /// The sub-mixes that a render runs, by number, in their sequence.
     pub fn mix_order(&self) -> Result<Vec<u32>, Refusal> {
         // SAFETY: each pointer and count are those of one slice, which is only read.

@@ -52,7 +52,7 @@ pub struct Update {
 pub struct Render {
     /// 0, or the refusal's number.
     pub number: u32,
-    /// The rounds that the fetches of all voices took.
+    /// The rounds that the fetches of all voices took, of a section in all its renders.
     pub rounds: u32,
 }
 
@@ -202,6 +202,28 @@ unsafe extern "C" {
         contexts_len: usize,
         history: *mut f32,
         history_len: usize,
+        ranges: *const u64,
+        ranges_len: usize,
+        memory: *const u8,
+        memory_len: usize,
+        frames: *mut f32,
+        frames_len: usize,
+    ) -> Render;
+
+    /// So many renders, 1,024 at most, one after the other with the same ranges and memory: [`jeqlluna_render`] as often. Their frames go
+    /// to the front of the slice, one behind the other; the rounds are their sum. Refusals, in this sequence: 4, 13, 5, 14, 7.
+    pub fn jeqlluna_render_section(
+        words: *mut u32,
+        words_len: usize,
+        longs: *mut u64,
+        longs_len: usize,
+        floats: *mut f32,
+        floats_len: usize,
+        contexts: *mut u16,
+        contexts_len: usize,
+        history: *mut f32,
+        history_len: usize,
+        count: u32,
         ranges: *const u64,
         ranges_len: usize,
         memory: *const u8,

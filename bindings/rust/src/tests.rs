@@ -6,6 +6,7 @@ mod modes;
 mod positions;
 mod ranges;
 mod refusals;
+mod sections;
 mod sessions;
 mod title;
 mod words;

@@ -2,7 +2,8 @@
 use Rattle.calls.specs.Calls.{LengthsOutcome, LengthOutcome, lengthLeft, OrderOutcome}
 use Rattle.renderer.specs.declared.answers.UpdateAnswer.{UpdateAnswer}
 use Rattle.renderer.specs.declared.answers.RenderAnswer.{RenderAnswer}
-use Rattle.renderer.specs.Answers.{updateNumber, updateSize, renderNumber, renderRounds}
+use Rattle.renderer.specs.declared.answers.SectionAnswer.{SectionAnswer}
+use Rattle.renderer.specs.Answers.{updateNumber, updateSize, renderNumber, renderRounds, sectionNumber, sectionRounds}
 use Rattle.cabi.specs.declared.answers.JeqllunaLengths.{JeqllunaLengths}
 use Rattle.cabi.specs.declared.answers.JeqllunaLength.{JeqllunaLength}
 use Rattle.cabi.specs.declared.answers.JeqllunaOrder.{JeqllunaOrder}
@@ -23,3 +24,6 @@ updateTold a = record { number = updateNumber a; size = updateSize a }
 
 abbrev pub renderTold : RenderAnswer → JeqllunaRender
 renderTold a = record { number = renderNumber a; rounds = renderRounds a }
+
+abbrev pub sectionTold : SectionAnswer → JeqllunaRender
+sectionTold a = record { number = sectionNumber a; rounds = sectionRounds a }

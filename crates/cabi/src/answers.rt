@@ -1,11 +1,12 @@
 // What the calls on a renderer answer, in numbers. Where `number` is not 0 the rest is 0.
 ghost use mathlib.Core.Path.{_≡_};
 ghost use Rattle.renderer.specs.Answers.{lengthsSeen, replyLengthSeen, orderSeen};
-ghost use Rattle.cabi.specs.Answers.{lengthsLeft, lengthIn, updateTold, renderTold, orderIn};
+ghost use Rattle.cabi.specs.Answers.{lengthsLeft, lengthIn, updateTold, renderTold, sectionTold, orderIn};
 use renderer::LengthsAnswer;
 use renderer::OrderAnswer;
 use renderer::RenderAnswer;
 use renderer::ReplyLengthAnswer;
+use renderer::SectionAnswer;
 use renderer::UpdateAnswer;
 
 #[repr(C)]
@@ -34,7 +35,7 @@ pub struct JeqllunaUpdate {
 #[repr(C)]
 pub struct JeqllunaRender {
     pub number: u32,
-    // The rounds that the fetches took, of all voices.
+    // The rounds that the fetches took, of all voices; of a section, those of all its renders.
     pub rounds: u32,
 }
 
@@ -116,6 +117,34 @@ pub fn render_told(a: RenderAnswer) -> JeqllunaRender
             rounds: 0,
         },
         RenderAnswer::ShortFrames => JeqllunaRender {
+            number: 7,
+            rounds: 0,
+        },
+    }
+}
+
+pub fn section_told(a: SectionAnswer) -> JeqllunaRender
+    ensures { λ r. ⌜ r ≡ sectionTold a ⌝ }
+{
+    match a {
+        SectionAnswer::Rendered(rounds) => JeqllunaRender { number: 0, rounds },
+        SectionAnswer::NotWhole => JeqllunaRender {
+            number: 4,
+            rounds: 0,
+        },
+        SectionAnswer::Ranges => JeqllunaRender {
+            number: 13,
+            rounds: 0,
+        },
+        SectionAnswer::FarMemory => JeqllunaRender {
+            number: 5,
+            rounds: 0,
+        },
+        SectionAnswer::Count => JeqllunaRender {
+            number: 14,
+            rounds: 0,
+        },
+        SectionAnswer::ShortFrames => JeqllunaRender {
             number: 7,
             rounds: 0,
         },

@@ -22,6 +22,7 @@ ghost use Rattle.ranges.specs.Ranges.{rangesOf};
 ghost use Rattle.params.specs.Params.{parseOf};
 ghost use Rattle.state.specs.State.{stateOf};
 ghost use Rattle.calls.specs.Calls.{lengthsCall, replyLengthCall, openLeft, openCall, updateLeft, updateCall, renderLeft, renderCall, orderCall};
+ghost use Rattle.calls.specs.Sections.{sectionCall};
 ghost use Rattle.cabi.specs.Answers.{lengthsLeft, lengthIn, orderIn};
 use params::Params;
 
@@ -114,6 +115,39 @@ pub extern "C" fn jeqlluna_render(
         floats,
         contexts,
         history,
+        ranges,
+        memory,
+        frames,
+    ))
+}
+
+// A song section: `count` renders one after the other, whose frames stand one behind the other in their slice.
+#[no_mangle]
+pub extern "C" fn jeqlluna_render_section(
+    words: &mut [u32],
+    longs: &mut [u64],
+    floats: &mut [f32],
+    contexts: &mut [u16],
+    history: &mut [f32],
+    count: u32,
+    ranges: &[u64],
+    memory: &[u8],
+    frames: &mut [f32],
+) -> JeqllunaRender
+    ensures { λ r. ⌜ renderLeft (r .number) (r .rounds)
+        (stateOf (now (words .exit)) (now (longs .exit)) (now (floats .exit)) (now (contexts .exit)) (now (history .exit)))
+        (now (frames .exit))
+        ≡ sectionCall
+        (stateOf (now (words .entry)) (now (longs .entry)) (now (floats .entry)) (now (contexts .entry)) (now (history .entry)))
+        count (rangesOf (now (ranges .entry))) (now (memory .entry)) (now (frames .entry)) ⌝ }
+{
+    answers::section_told(renderer::render_section(
+        words,
+        longs,
+        floats,
+        contexts,
+        history,
+        count,
         ranges,
         memory,
         frames,

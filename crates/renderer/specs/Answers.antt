@@ -15,6 +15,8 @@ use Rattle.renderer.specs.declared.answers.UpdateAnswer.{UpdateAnswer}
 use Rattle.renderer.specs.declared.answers.UpdateAnswer.the-variants as of-update
 use Rattle.renderer.specs.declared.answers.RenderAnswer.{RenderAnswer}
 use Rattle.renderer.specs.declared.answers.RenderAnswer.the-variants as of-render
+use Rattle.renderer.specs.declared.answers.SectionAnswer.{SectionAnswer}
+use Rattle.renderer.specs.declared.answers.SectionAnswer.the-variants as of-section
 use Rattle.renderer.specs.declared.answers.OrderAnswer.{OrderAnswer}
 
 -- ---- lengths
@@ -75,6 +77,27 @@ renderRounds of-render.ShortFrames = 0
 
 abbrev pub renderSeen : RenderAnswer → State → List Float → RenderOutcome
 renderSeen a st frames = renderLeft (renderNumber a) (renderRounds a) st frames
+
+-- ---- render_section: the rounds of all its renders
+
+abbrev pub sectionNumber : SectionAnswer → ℕ
+sectionNumber (of-section.Rendered rounds) = 0
+sectionNumber of-section.NotWhole = 4
+sectionNumber of-section.Ranges = 13
+sectionNumber of-section.FarMemory = 5
+sectionNumber of-section.Count = 14
+sectionNumber of-section.ShortFrames = 7
+
+abbrev pub sectionRounds : SectionAnswer → ℕ
+sectionRounds (of-section.Rendered rounds) = rounds
+sectionRounds of-section.NotWhole = 0
+sectionRounds of-section.Ranges = 0
+sectionRounds of-section.FarMemory = 0
+sectionRounds of-section.Count = 0
+sectionRounds of-section.ShortFrames = 0
+
+abbrev pub sectionSeen : SectionAnswer → State → List Float → RenderOutcome
+sectionSeen a st frames = renderLeft (sectionNumber a) (sectionRounds a) st frames
 
 -- ---- mix_order
 

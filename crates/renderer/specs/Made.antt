@@ -31,7 +31,7 @@ use Rattle.calls.specs.Calls.{OrderOutcome, lengthsRefused, lengthsGiven, lengt
 pub passed : {t r : Bool} → r ≡ t → not r ≡ false → t ≡ true
 passed {r = r} e q = sym e ∙ not-false r q
 
-failed : {t r : Bool} → r ≡ t → not r ≡ true → t ≡ false
+pub failed : {t r : Bool} → r ≡ t → not r ≡ true → t ≡ false
 failed {r = r} e q = sym e ∙ not-true r q
 
 -- ---- lengths, reply_length and open: the answers s, c and z of questions 1, 2 and 3

@@ -75,6 +75,21 @@ pub enum RenderAnswer {
     ShortFrames,
 }
 
+pub enum SectionAnswer {
+    // The rounds that the fetches of all its renders took.
+    Rendered(u32),
+    // 4: the state
+    NotWhole,
+    // 13: the ranges of sample memory
+    Ranges,
+    // 5: where a range ends
+    FarMemory,
+    // 14: the count of renders
+    Count,
+    // 7: the frame slice
+    ShortFrames,
+}
+
 // An enum can't hold an array here, so the number stands beside it.
 pub struct OrderAnswer {
     // 4: the state

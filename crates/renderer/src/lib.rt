@@ -1,6 +1,7 @@
 // The calls that a title may make on a renderer, which is five lent slices. Each asks its questions (docs/QUESTIONS.md) in their sequence; the first "no" is the
 // answer, and then nothing that is lent changes.
 mod answers;
+mod section;
 
 pub use answers::Lengths;
 pub use answers::LengthsAnswer;
@@ -8,7 +9,9 @@ pub use answers::OpenAnswer;
 pub use answers::OrderAnswer;
 pub use answers::RenderAnswer;
 pub use answers::ReplyLengthAnswer;
+pub use answers::SectionAnswer;
 pub use answers::UpdateAnswer;
+pub use section::render_section;
 ghost use mathlib.Core.Path.{_≡_};
 ghost use Rattle.ranges.specs.Ranges.{rangesOf};
 ghost use Rattle.state.specs.State.{stateOf};

@@ -43,7 +43,7 @@ unit-in : (s : Float) → T (inRange (toUnit s))
 unfolding toUnit
 unit-in s = clamp-unit (mul binary32 s (fin false 1 (negsuc 14)))
 
-each-append : (xs ys : List Float) → T (each xs) → T (each ys) → T (each (xs ++ ys))
+pub each-append : (xs ys : List Float) → T (each xs) → T (each ys) → T (each (xs ++ ys))
 each-append [] ys p q = q
 each-append (x ∷ xs) ys p q =
     and-i (inRange x) (each (xs ++ ys)) (and-l (inRange x) (each xs) p) (each-append xs ys (and-r (inRange x) (each xs) p) q)

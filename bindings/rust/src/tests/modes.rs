@@ -1,6 +1,6 @@
 //! The floating-point mode around a call.
 use super::title::{ONE_VOICE, held, render, title};
-use crate::{Renderer, mode, sys};
+use crate::{Range, Renderer, mode, sys};
 use alloc::vec::Vec;
 
 /// MXCSR with exceptions masked, to nearest, nothing flushed.
@@ -32,6 +32,11 @@ fn in_mode(mxcsr: u32, r: &mut Renderer, render: fn(&mut Renderer, &mut [f32; 48
 
 fn by_crate(r: &mut Renderer, frames: &mut [f32; 480]) {
     let _ = render(r, 0x10000, &[0x33, 0x73], frames);
+}
+
+fn by_section(r: &mut Renderer, frames: &mut [f32; 480]) {
+    let memory = [0x33, 0x73];
+    let _ = r.render_section(1, &[Range::whole(0x10000, &memory)], &memory, frames);
 }
 
 /// The library's function as it is, which leaves the mode alone.
@@ -69,8 +74,10 @@ fn every_mode_gives_the_same() {
     assert_ne!(in_mode(ORDER | DOWNWARD, &mut b, by_library).0, frames);
     // Rounding, flushing, exceptions that are not masked, and flags that are raised: the frames are the same and the register comes back.
     for mxcsr in [ORDER, ORDER | DOWNWARD, ORDER | FLUSHED, 0, ORDER | 0x3f, DOWNWARD | FLUSHED | 0x3f] {
-        let mut c = renderer();
-        assert_eq!(in_mode(mxcsr, &mut c, by_crate), (frames.clone(), mxcsr), "MXCSR {mxcsr:x}");
-        assert_eq!(held(&c), held(&a));
+        for render in [by_crate, by_section] {
+            let mut c = renderer();
+            assert_eq!(in_mode(mxcsr, &mut c, render), (frames.clone(), mxcsr), "MXCSR {mxcsr:x}");
+            assert_eq!(held(&c), held(&a));
+        }
     }
 }

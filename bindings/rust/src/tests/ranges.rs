@@ -1,54 +1,16 @@
 //! Sample memory in ranges: reads that cross, gaps, and the refusals.
-use super::title::{ONE_VOICE, held, put, render, title};
+use super::title::{AT, Held, SAMPLES, held, memory, playing, render};
 use crate::{Position, Range, Refusal, Renderer, sys};
 use alloc::vec;
 use alloc::vec::Vec;
-
-const BASE: u32 = 0x10000;
-const AT: u64 = BASE as u64;
-/// Where the samples stand in memory, behind the coefficients and the context of ADPCM, and how many bytes they are.
-const SAMPLES: usize = 40;
-const BYTES: usize = 1600;
 
 /// The range of three numbers.
 const fn range(base: u64, start: u64, length: u64) -> Range {
     Range { base, start, length }
 }
 
-/// Coefficients, a context and samples that are heard in every format.
-fn memory() -> Vec<u8> {
-    let mut memory: Vec<u8> = (0..SAMPLES + BYTES).map(|k| (k * k / 7 + k) as u8).collect();
-    for at in (SAMPLES..memory.len()).step_by(4) {
-        memory[at + 3] = 0x3c + (memory[at] & 2);
-    }
-    for (k, coefficient) in [1024i16, 512, 2048, 0, 0, 1024, 512, -256].into_iter().cycle().take(16).enumerate() {
-        memory[2 * k..2 * k + 2].copy_from_slice(&coefficient.to_le_bytes());
-    }
-    memory
-}
-
-/// A renderer whose voice plays the samples in a format, once.
-fn renderer(format: u8) -> Renderer {
-    let (voice, wave) = (0xb0, 0xb0 + 0x60);
-    let count = match format {
-        2 => BYTES / 2,
-        5 => BYTES / 4,
-        _ => BYTES / 8 * 14,
-    };
-    let mut update = title(1.0, true);
-    update[voice + 0x0b] = format;
-    put(&mut update, voice + 0x48, BASE);
-    let place = [(0x00, BASE + SAMPLES as u32), (0x08, BYTES as u32), (0x14, count as u32), (0x18, 0), (0x20, BASE + 32)];
-    for (at, value) in place {
-        put(&mut update, wave + at, value);
-    }
-    let mut r = Renderer::open(&ONE_VOICE).unwrap();
-    r.update(0, &update, 4096).unwrap();
-    r
-}
-
 /// The rounds and the frames' bits of two renders, and what the renderer then holds.
-fn heard(r: &mut Renderer, ranges: &[Range], memory: &[u8]) -> (Vec<u32>, super::title::Held) {
+fn heard(r: &mut Renderer, ranges: &[Range], memory: &[u8]) -> (Vec<u32>, Held) {
     let mut out = vec![];
     for _ in 0..2 {
         let mut frames = [0.25; 480];
@@ -63,17 +25,17 @@ fn heard(r: &mut Renderer, ranges: &[Range], memory: &[u8]) -> (Vec<u32>, super:
 fn two_that_touch() {
     let memory = memory();
     for format in [2, 5, 6] {
-        let one = heard(&mut renderer(format), &[Range::whole(AT, &memory)], &memory);
+        let one = heard(&mut playing(format), &[Range::whole(AT, &memory)], &memory);
         assert!(one.0.iter().filter(|&&x| x != 0).count() > 400, "format {format} is heard");
         for cut in (0..=memory.len()).filter(|k| k % 9 == 0 || *k < SAMPLES + 8) {
             let (first, second) = memory.split_at(cut);
             let (a, b) = (first.len() as u64, second.len() as u64);
             let swapped = [second, first].concat();
             let ranges = [range(AT, b, a), range(AT + a, 0, b)];
-            assert_eq!(heard(&mut renderer(format), &ranges, &swapped), one, "format {format}, cut at {cut}, swapped");
+            assert_eq!(heard(&mut playing(format), &ranges, &swapped), one, "format {format}, cut at {cut}, swapped");
             let apart = [&[0xa5][..], first, &[0xa5; 3], second].concat();
             let ranges = [range(7, 0, 1), range(AT, 1, a), range(AT + a, 0, 0), range(AT + a, 4 + a, b), range(1 << 62, 0, 9)];
-            assert_eq!(heard(&mut renderer(format), &ranges, &apart), one, "format {format}, cut at {cut}, apart");
+            assert_eq!(heard(&mut playing(format), &ranges, &apart), one, "format {format}, cut at {cut}, apart");
         }
     }
 }
@@ -85,8 +47,8 @@ fn a_part_that_is_shared() {
     let part = &memory[SAMPLES..SAMPLES + 50];
     let ranges: [Range; 16] = core::array::from_fn(|k| range(AT + SAMPLES as u64 + 50 * k as u64, SAMPLES as u64, 50));
     let long = part.repeat(16);
-    let whole = heard(&mut renderer(2), &[Range::whole(AT + SAMPLES as u64, &long)], &long);
-    assert_eq!(heard(&mut renderer(2), &ranges, &memory), whole);
+    let whole = heard(&mut playing(2), &[Range::whole(AT + SAMPLES as u64, &long)], &long);
+    assert_eq!(heard(&mut playing(2), &ranges, &memory), whole);
     assert!(whole.0.iter().any(|&x| x != 0));
 }
 
@@ -96,7 +58,7 @@ fn a_gap() {
     let memory = memory();
     let (length, gap) = (memory.len() as u64, SAMPLES as u64 + 500);
     let ranges = [range(AT, 0, gap), range(AT + gap + 1, gap + 1, length - gap - 1)];
-    let (mut whole, mut gapped) = (renderer(2), renderer(2));
+    let (mut whole, mut gapped) = (playing(2), playing(2));
     let (mut a, mut b) = ([0.25; 480], [0.25; 480]);
     assert_eq!(render(&mut whole, AT, &memory, &mut a), Ok(1));
     assert_eq!(gapped.render(&ranges, &memory, &mut b), Ok(1));
@@ -129,7 +91,7 @@ fn refused_by_13() {
         (&[range(MOST - 1, 0, 2), range(0, 0, 1)], &[range(0, 0, 1), range((1 << 63) - 2, 0, 2)]),
     ];
     let memory = &memory()[..32];
-    let mut r = renderer(2);
+    let mut r = playing(2);
     let before = held(&r);
     for (k, (refused, allowed)) in cases.into_iter().enumerate() {
         let mut frames = [0.5; 480];
@@ -144,7 +106,7 @@ fn refused_by_13() {
 fn in_sequence() {
     let memory = &memory()[..32];
     let (near, far) = (range((1 << 63) - 32, 0, 32), range((1 << 63) - 31, 0, 32));
-    let mut r = renderer(2);
+    let mut r = playing(2);
     let before = held(&r);
     let mut frames = [0.5; 479];
     for refused in [&[far, near][..], &[far, range(u64::MAX, 33, 0)], &[range(AT, 0, 33), far]] {
@@ -162,7 +124,7 @@ fn in_sequence() {
 fn numbers_of_ranges() {
     let memory = memory();
     let given = |numbers: *const u64, count: usize| {
-        let (mut r, mut frames) = (renderer(2), [0.25f32; 480]);
+        let (mut r, mut frames) = (playing(2), [0.25f32; 480]);
         // SAFETY: each pointer and count are those of one slice or array; those that are written are borrowed here alone.
         let answer = unsafe {
             sys::jeqlluna_render(
@@ -194,7 +156,7 @@ fn numbers_of_ranges() {
         assert_eq!(given(numbers.as_ptr(), count), none, "{count} numbers");
         assert_eq!(given(numbers.as_ptr(), 3 + count), one, "{} numbers", 3 + count);
     }
-    let (mut r, mut frames) = (renderer(2), [0.25; 480]);
+    let (mut r, mut frames) = (playing(2), [0.25; 480]);
     assert_eq!(r.render(&[], &memory, &mut frames), Ok(none.0.rounds));
     assert_eq!((frames.map(f32::to_bits), held(&r)), (none.1, none.2));
 }

@@ -34,7 +34,7 @@ fn opening_is_refused() {
 fn state_is_refused() {
     // One element too many in each slice by turns is refused by 3, and nothing changes; no renderer at all is refused by 4.
     let p = Parameters { voices: 1, ..EXAMPLE }.to_bytes();
-    // What 13, 5 and 7 would refuse of a render.
+    // What 13, 5 and 7 would refuse of a render, and 14 of a section.
     let far = [u64::MAX; 51];
     // SAFETY: the pointer and the count are those of one array.
     let n = unsafe { sys::jeqlluna_lengths(p.as_ptr(), p.len()) };
@@ -48,18 +48,19 @@ fn state_is_refused() {
         let (mut reply, mut frames) = ([7u8; 400], [7f32; 4]);
         let (reply_at, frames_at, input) = (reply.as_mut_ptr(), frames.as_mut_ptr(), p.as_ptr());
         // SAFETY: each pointer and count are those of one slice or array, and none overlaps another.
-        let (order, update, render, open) = unsafe {
+        let (order, update, render, section, open) = unsafe {
             (
                 sys::jeqlluna_mix_order(w, wn, l, ln, f, fs, c, cn, h, hn),
                 sys::jeqlluna_update(w, wn, l, ln, f, fs, c, cn, h, hn, 400, input, 0, reply_at, 400),
                 sys::jeqlluna_render(w, wn, l, ln, f, fs, c, cn, h, hn, far.as_ptr(), 51, input, 0, frames_at, 3),
+                sys::jeqlluna_render_section(w, wn, l, ln, f, fs, c, cn, h, hn, [0, 1025][k % 2], far.as_ptr(), 51, input, 0, frames_at, 3),
                 sys::jeqlluna_open(input, p.len(), w, wn, l, ln, f, fs, c, cn, h, hn),
             )
         };
         assert!(reply == [7; 400] && frames == [7.0; 4]);
         assert_eq!(order, sys::Order { number: 4, count: 0, mixes: [0; 31] });
         assert_eq!(update, sys::Update { number: 4, size: 0 });
-        assert_eq!(render, sys::Render { number: 4, rounds: 0 });
+        assert_eq!([render, section], [sys::Render { number: 4, rounds: 0 }; 2]);
         assert_eq!(open, if k < 5 { 3 } else { 0 });
         if k < 5 {
             assert!(words.iter().all(|&x| x == 7) && longs.iter().all(|&x| x == 7) && contexts.iter().all(|&x| x == 7));

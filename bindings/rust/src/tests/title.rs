@@ -34,6 +34,13 @@ pub const MOST: Parameters = Parameters {
     revision: revision(5),
 };
 
+/// Where sample memory stands.
+const BASE: u32 = 0x10000;
+pub const AT: u64 = BASE as u64;
+/// Where the samples stand in memory, behind the coefficients and the context of ADPCM, and how many bytes they are.
+pub const SAMPLES: usize = 40;
+const BYTES: usize = 1600;
+
 /// All that a renderer holds, floats by their bits.
 pub type Held = (Vec<u32>, Vec<u64>, Vec<u32>, Vec<u16>, Vec<u32>);
 
@@ -82,4 +89,36 @@ pub fn title(volume: f32, fresh: bool) -> Vec<u8> {
         put(&mut input, at, size as u32);
     }
     [input, resource, voice, mix, sink].concat()
+}
+
+/// Coefficients, a context and samples that are heard in every format.
+pub fn memory() -> Vec<u8> {
+    let mut memory: Vec<u8> = (0..SAMPLES + BYTES).map(|k| (k * k / 7 + k) as u8).collect();
+    for at in (SAMPLES..memory.len()).step_by(4) {
+        memory[at + 3] = 0x3c + (memory[at] & 2);
+    }
+    for (k, coefficient) in [1024i16, 512, 2048, 0, 0, 1024, 512, -256].into_iter().cycle().take(16).enumerate() {
+        memory[2 * k..2 * k + 2].copy_from_slice(&coefficient.to_le_bytes());
+    }
+    memory
+}
+
+/// A renderer whose voice plays the samples in a format, once.
+pub fn playing(format: u8) -> Renderer {
+    let (voice, wave) = (0xb0, 0xb0 + 0x60);
+    let count = match format {
+        2 => BYTES / 2,
+        5 => BYTES / 4,
+        _ => BYTES / 8 * 14,
+    };
+    let mut update = title(1.0, true);
+    update[voice + 0x0b] = format;
+    put(&mut update, voice + 0x48, BASE);
+    let place = [(0x00, BASE + SAMPLES as u32), (0x08, BYTES as u32), (0x14, count as u32), (0x18, 0), (0x20, BASE + 32)];
+    for (at, value) in place {
+        put(&mut update, wave + at, value);
+    }
+    let mut r = Renderer::open(&ONE_VOICE).unwrap();
+    r.update(0, &update, 4096).unwrap();
+    r
 }

@@ -1,0 +1,2 @@
+pub mod Sectionable
+pub mod Singles

@@ -1,0 +1,9 @@
+pub mod Heard
+pub mod Refusals
+pub mod Behind
+pub mod Joins
+pub mod Flats
+pub mod Alikes
+pub mod Secrecy
+pub mod Kept
+pub mod Fair
