@@ -19,13 +19,13 @@ use Rattle.renders.specs.Sectionable.{Sectionable}
 use Rattle.renderer.specs.Made.{passed, failed, ascending}
 
 -- a test e of question 14 that is passed
-pub few : {count : ℕ} {e : Bool} → e ≡ leb count mostRenders → not e ≡ false → count ≤ mostRenders
-few {count} ee x = leb-true count mostRenders (passed ee x)
+pub count-few : {count : ℕ} {e : Bool} → e ≡ leb count mostRenders → not e ≡ false → count ≤ mostRenders
+count-few {count} ee x = leb-true count mostRenders (passed ee x)
 
 -- what the product of count and samples asks
 pub floats-asked : (st : State) {t : Bool} → t ≡ wholeOf st → not t ≡ false → {p : Params} → p ≡ paramsIn st
     → {count : ℕ} {e : Bool} → e ≡ leb count mostRenders → not e ≡ false → (p .«sample_count» ≤ 256) × (count ≤ mostRenders)
-floats-asked st et q ep ee x = (rw ep (whole-facts st (passed et q) .allowed .samples), few ee x)
+floats-asked st et q ep ee x = (rw ep (whole-facts st (passed et q) .allowed .samples), count-few ee x)
 
 -- the answers t, l and b of questions 4, 13 and 5
 module _ (st : State) (count : ℕ) (rs : List Range) (m : List ℕ) (frames : List Float) {t : Bool} (et : t ≡ wholeOf st) where
@@ -75,7 +75,7 @@ module _ (st : State) (count : ℕ) (rs : List Range) (m : List ℕ) (frames : L
                 memory = ascending (length m) rs el y eb w;
                 room = omega (arith, en, room);
               },
-              few ee x,
+              count-few ee x,
             )
 
             pub section-done : {rounds : ℕ} {u : State} {f : List Float} → renderLeft 0 rounds u f ≡ sectionDone count st rs m frames

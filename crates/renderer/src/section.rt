@@ -36,7 +36,7 @@ pub fn render_section(
     if !ranges::near(ranges) {
         return SectionAnswer::FarMemory;
     }
-    if !renders::few(count) {
+    if !renders::renders_allowed(count) {
         return SectionAnswer::Count;
     }
     let p = Params::load(words);

@@ -22,28 +22,32 @@ use Rattle.renders.specs.Sectionable.{Sectionable}
 use Rattle.renders.proofs.Rounds.{render-few}
 use Rattle.renders.proofs.Sections.{done-number}
 
+-- a render takes at most 64 rounds for each of 64 voices
+abbrev pub mostRounds : ℕ
+mostRounds = 64 * 64
+
 -- renders that took n rounds and filled the front of the frames, and then those of o
-abbrev pub joined : ℕ → List Float → RenderOutcome → RenderOutcome
-joined n front o = renderLeft 0 (n + o .rounds) (o .state) (front ++ o .frames)
+abbrev pub andThen : ℕ → List Float → RenderOutcome → RenderOutcome
+andThen n front o = renderLeft 0 (n + o .rounds) (o .state) (front ++ o .frames)
 
 -- a render that left x, and k more
 abbrev firstThen : Rendered → List Range → List ℕ → ℕ → ℕ → RenderOutcome
-firstThen x rs m wide k = joined (x .rounds) (take wide (x .frames)) (sectionDone k (x .state) rs m (drop wide (x .frames)))
+firstThen x rs m wide k = andThen (x .rounds) (take wide (x .frames)) (sectionDone k (x .state) rs m (drop wide (x .frames)))
 
 -- of a section whose outcome is `all`: `left` renders are to come, and the next one's frames begin at `at`
-pub record Filling (p : Params) (rs : List Range) (m : List ℕ) (all : RenderOutcome) (st : State) (frames : List Float)
+pub record Sectioning (p : Params) (rs : List Range) (m : List ℕ) (all : RenderOutcome) (st : State) (frames : List Float)
     (rounds at left : ℕ) : Type 0 where
   pub next : Sectionable p left rs m st (drop at frames)
   pub inside : at ≤ length frames
-  pub few : rounds + left * 4096 ≤ mostRenders * 4096
-  pub joins : joined rounds (take at frames) (sectionDone left st rs m (drop at frames)) ≡ all
+  pub few : rounds + left * mostRounds ≤ mostRenders * mostRounds
+  pub joins : andThen rounds (take at frames) (sectionDone left st rs m (drop at frames)) ≡ all
 
 -- ---- the first
 
-pub filling-begin : {p : Params} {count : ℕ} {rs : List Range} {m : List ℕ} {st : State} {frames : List Float}
+pub sectioning-begin : {p : Params} {count : ℕ} {rs : List Range} {m : List ℕ} {st : State} {frames : List Float}
     → Sectionable p count rs m st frames → count ≤ mostRenders
-    → Filling p rs m (sectionDone count st rs m frames) st frames 0 0 count
-filling-begin {count = count} {rs} {m} {st} {frames} h few =
+    → Sectioning p rs m (sectionDone count st rs m frames) st frames 0 0 count
+sectioning-begin {count = count} {rs} {m} {st} {frames} h few =
     let o = sectionDone count st rs m frames in
     let same : 0 + o .rounds ≡ o .rounds = omega arith in
     let number = done-number count st rs m frames in
@@ -58,10 +62,10 @@ filling-begin {count = count} {rs} {m} {st} {frames} h few =
 
 -- by what is left after it, for the parameters that stand in the state
 more-by : {rs : List Range} {m : List ℕ} {all : RenderOutcome} {st : State} {frames : List Float} {rounds at k : ℕ}
-    → Filling (paramsIn st) rs m all st frames rounds at (suc k)
+    → Sectioning (paramsIn st) rs m all st frames rounds at (suc k)
     → {u : State} {spent : ℕ} {f : List Float} → rendered u spent f ≡ renderedBy (paramsIn st) rs m st (drop at frames)
     → length f ≡ length (drop at frames)
-    → Filling (paramsIn st) rs m all u (take at frames ++ f) (rounds + spent) (at + wideIn st) k
+    → Sectioning (paramsIn st) rs m all u (take at frames ++ f) (rounds + spent) (at + wideIn st) k
 unfolding sectionDone renderDone
 more-by {rs} {m} {all} {st} {frames} {rounds} {at} {k} g {u} {spent} {f} e long =
     let p = paramsIn st in
@@ -87,17 +91,17 @@ more-by {rs} {m} {all} {st} {frames} {rounds} {at} {k} g {u} {spent} {f} e long 
       };
       inside = rw (length-append, front-long) (omega (arith, room));
       few = omega (arith, g .few, spent-few, h .whole .allowed .voices);
-      joins = (λ i. joined (rounds + spent) (front-is i) (sectionDone k u rs m (rest-is i)))
+      joins = (λ i. andThen (rounds + spent) (front-is i) (sectionDone k u rs m (rest-is i)))
           ∙ (λ i. renderLeft 0 (sum i) (rest .state) (append-assoc front (take (wideIn st) f) (rest .frames) i))
-          ∙ (λ i. joined rounds front (firstThen (e i) rs m (wideIn st) k))
+          ∙ (λ i. andThen rounds front (firstThen (e i) rs m (wideIn st) k))
           ∙ g .joins;
     }
 
 -- what the next render asks, and what holds after it
 module _ {p : Params} {rs : List Range} {m : List ℕ} {all : RenderOutcome} {st : State} {frames : List Float} {rounds at left : ℕ}
-    (g : Filling p rs m all st frames rounds at left) (some : 0 < left) where
-  pub next-playing : Playing p (renderOf p rs) m 0 st
-  next-playing =
+    (g : Sectioning p rs m all st frames rounds at left) (some : 0 < left) where
+  pub next-asked : Playing p (renderOf p rs) m 0 st
+  next-asked =
       subst (λ (q : Params). Playing q (renderOf q rs) m 0 st) (g .next .params) (whole-playing st (g .next .whole) rs m (g .next .memory))
 
   next-room : 2 * p .«sample_count» ≤ length (drop at frames)
@@ -105,17 +109,17 @@ module _ {p : Params} {rs : List Range} {m : List ℕ} {all : RenderOutcome} {st
       let one = mul-le-mul-right (2 * p .«sample_count») some in
       omega (arith, g .next .room, one)
 
-  filling-more : {u : State} {spent : ℕ} {f : List Float} → rendered u spent f ≡ renderedBy p rs m st (drop at frames)
+  sectioning-more : {u : State} {spent : ℕ} {f : List Float} → rendered u spent f ≡ renderedBy p rs m st (drop at frames)
       → length f ≡ length (drop at frames)
-      → Filling p rs m all u (take at frames ++ f) (rounds + spent) (at + 2 * p .«sample_count») (left - 1)
-  filling-more {u} {spent} {f} e long =
+      → Sectioning p rs m all u (take at frames ++ f) (rounds + spent) (at + 2 * p .«sample_count») (left - 1)
+  sectioning-more {u} {spent} {f} e long =
       let one : left ≡ suc (left - 1) = omega arith in
-      let h = subst (Filling p rs m all st frames rounds at) one g in
+      let h = subst (Sectioning p rs m all st frames rounds at) one g in
       subst
       (λ (q : Params).
-      Filling q rs m all st frames rounds at (suc (left - 1))
+      Sectioning q rs m all st frames rounds at (suc (left - 1))
       → rendered u spent f ≡ renderedBy q rs m st (drop at frames)
-      → Filling q rs m all u (take at frames ++ f) (rounds + spent) (at + 2 * q .«sample_count») (left - 1))
+      → Sectioning q rs m all u (take at frames ++ f) (rounds + spent) (at + 2 * q .«sample_count») (left - 1))
       (g .next .params)
       (λ h e. more-by h e long)
       h
@@ -129,24 +133,24 @@ module _ {p : Params} {rs : List Range} {m : List ℕ} {all : RenderOutcome} {st
   pub lent-room : 2 * p .«sample_count» ≤ length (take (length frames - at) (drop at frames))
   lent-room = rw (rest-lent frames at (g .inside)) next-room
 
-  pub filling-returned : {u : State} {spent : ℕ} {f : List Float}
+  pub sectioning-returned : {u : State} {spent : ℕ} {f : List Float}
       → rendered u spent f ≡ renderedBy p rs m st (take (length frames - at) (drop at frames))
       → length f ≡ length (take (length frames - at) (drop at frames))
-      → Filling p rs m all u (take at frames ++ (f ++ drop (length frames - at) (drop at frames))) (rounds + spent)
+      → Sectioning p rs m all u (take at frames ++ (f ++ drop (length frames - at) (drop at frames))) (rounds + spent)
       (at + 2 * p .«sample_count») (left - 1)
-  filling-returned {u} {spent} {f} e long =
+  sectioning-returned {u} {spent} {f} e long =
       let lent = rest-lent frames at (g .inside) in
-      rw (rest-returned frames at (g .inside) f) (filling-more (e ∙ ap (renderedBy p rs m st) lent) (long ∙ ap length lent))
+      rw (rest-returned frames at (g .inside) f) (sectioning-more (e ∙ ap (renderedBy p rs m st) lent) (long ∙ ap length lent))
 
 -- ---- the last
 
-pub filling-end : {p : Params} {rs : List Range} {m : List ℕ} {all : RenderOutcome} {st : State} {frames : List Float} {rounds at left : ℕ}
-    → Filling p rs m all st frames rounds at left → left ≡ 0 → renderLeft 0 rounds st frames ≡ all
+pub sectioning-end : {p : Params} {rs : List Range} {m : List ℕ} {all : RenderOutcome} {st : State} {frames : List Float}
+    {rounds at left : ℕ} → Sectioning p rs m all st frames rounds at left → left ≡ 0 → renderLeft 0 rounds st frames ≡ all
 unfolding sectionDone
-filling-end {rs = rs} {m} {all} {st} {frames} {rounds} {at} g e =
+sectioning-end {rs = rs} {m} {all} {st} {frames} {rounds} {at} g e =
     let none : rounds ≡ rounds + 0 = omega arith in
     (λ i. renderLeft 0 (none i) st (sym (take-append-drop at frames) i))
-    ∙ (λ i. joined rounds (take at frames) (sectionDone (sym e i) st rs m (drop at frames)))
+    ∙ (λ i. andThen rounds (take at frames) (sectionDone (sym e i) st rs m (drop at frames)))
     ∙ g .joins
 
 -- ---- the slices of the state are as long as its parameters say

@@ -47,8 +47,8 @@ module _ (st : State) (count : ℕ) (rs : List Range) (m : List ℕ) (frames : L
       (renderLeft 4 0 st frames)
 
   -- whether there is room for the frames
-  abbrev pub hasRoom : Bool
-  hasRoom = leb (count * wideIn st) (length frames)
+  abbrev pub framesFit : Bool
+  framesFit = leb (count * wideIn st) (length frames)
 
   by-answers : (w l n f r : Bool) → sectionBy w l n f r .number ≡ numberBy w l n f r
   unfolding sectionBy numberBy
@@ -60,9 +60,9 @@ module _ (st : State) (count : ℕ) (rs : List Range) (m : List ℕ) (frames : L
   by-answers false l n f r = refl
 
   pub section-number : sectionCall st count rs m frames .number
-      ≡ numberBy (wholeOf st) (laidOf (length m) rs) (nearOf rs) (leb count mostRenders) hasRoom
+      ≡ numberBy (wholeOf st) (laidOf (length m) rs) (nearOf rs) (leb count mostRenders) framesFit
   unfolding sectionCall sectionBy
-  section-number = by-answers (wholeOf st) (laidOf (length m) rs) (nearOf rs) (leb count mostRenders) hasRoom
+  section-number = by-answers (wholeOf st) (laidOf (length m) rs) (nearOf rs) (leb count mostRenders) framesFit
 
   -- all five are answered "yes"
   pub record AllYes : Type 0 where
@@ -74,7 +74,7 @@ module _ (st : State) (count : ℕ) (rs : List Range) (m : List ℕ) (frames : L
 
   -- ---- a section that succeeds
 
-  yes-by : (w l n f r : Bool) → wholeOf st ≡ w → laidOf (length m) rs ≡ l → nearOf rs ≡ n → leb count mostRenders ≡ f → hasRoom ≡ r
+  yes-by : (w l n f r : Bool) → wholeOf st ≡ w → laidOf (length m) rs ≡ l → nearOf rs ≡ n → leb count mostRenders ≡ f → framesFit ≡ r
       → sectionBy w l n f r .number ≡ 0 → AllYes
   unfolding sectionBy
   yes-by true true true true true ew el en ef er h =
@@ -87,7 +87,7 @@ module _ (st : State) (count : ℕ) (rs : List Range) (m : List ℕ) (frames : L
 
   pub section-yes : sectionCall st count rs m frames .number ≡ 0 → AllYes
   unfolding sectionCall sectionBy
-  section-yes h = yes-by (wholeOf st) (laidOf (length m) rs) (nearOf rs) (leb count mostRenders) hasRoom refl refl refl refl refl h
+  section-yes h = yes-by (wholeOf st) (laidOf (length m) rs) (nearOf rs) (leb count mostRenders) framesFit refl refl refl refl refl h
 
   pub yes-done : AllYes → sectionCall st count rs m frames ≡ sectionDone count st rs m frames
   unfolding sectionCall
@@ -112,7 +112,7 @@ module _ (st : State) (count : ℕ) (rs : List Range) (m : List ℕ) (frames : L
   pub section-refused : eqb (sectionCall st count rs m frames .number) 0 ≡ false
       → sectionCall st count rs m frames ≡ renderLeft (sectionCall st count rs m frames .number) 0 st frames
   unfolding sectionCall sectionBy
-  section-refused = refused-by (wholeOf st) (laidOf (length m) rs) (nearOf rs) (leb count mostRenders) hasRoom
+  section-refused = refused-by (wholeOf st) (laidOf (length m) rs) (nearOf rs) (leb count mostRenders) framesFit
 
 -- ---- a section of no render, and of one
 
@@ -130,7 +130,7 @@ module _ (st : State) (rs : List Range) (m : List ℕ) (frames : List Float) whe
   -- none changes nothing, whether or not it is refused
   pub section-none : sectionCall st 0 rs m frames ≡ renderLeft (sectionCall st 0 rs m frames .number) 0 st frames
   unfolding sectionCall sectionBy
-  section-none = none-by (wholeOf st) (laidOf (length m) rs) (nearOf rs) (leb 0 mostRenders) (hasRoom st 0 rs m frames)
+  section-none = none-by (wholeOf st) (laidOf (length m) rs) (nearOf rs) (leb 0 mostRenders) (framesFit st 0 rs m frames)
 
   one-done : sectionDone 1 st rs m frames ≡ renderDone st rs m frames
   unfolding sectionDone renderDone

@@ -13,7 +13,7 @@ use params::Params;
 const MOST_RENDERS: u32 = 1024;
 
 // Question 14: may a section have so many renders?
-pub fn few(count: u32) -> bool
+pub fn renders_allowed(count: u32) -> bool
     ensures { λ r. ⌜ r ≡ leb count mostRenders ⌝ }
 {
     count <= MOST_RENDERS

@@ -15,7 +15,7 @@ use Rattle.sink.specs.Laws.{each-append}
 use Rattle.whole.specs.Whole.{Whole, whole-is}
 use Rattle.calls.specs.Calls.{openCall}
 use Rattle.calls.specs.Sections.{mostRenders}
-use Rattle.renders.proofs.Sections.{numberBy, section-number, hasRoom}
+use Rattle.renders.proofs.Sections.{numberBy, section-number, framesFit}
 use Rattle.renders.proofs.Left.{section-whole}
 use Rattle.secrecy.specs.Sessions.{Call, after, Said, framesBy, framesAt}
 use Rattle.secrecy.specs.Demand.{begun}
@@ -44,7 +44,7 @@ module _ (st : State) (w : Whole st) where
   item-other : (x : Item) → saidItem st x .number ≡ 4 → ⊥
   item-other (single c) e = call-fine st w c .other e
   item-other (section count rs m frames) e =
-      let room = hasRoom st count rs m frames in
+      let room = framesFit st count rs m frames in
       let is = section-number st count rs m frames
       ∙ ap (λ (t : Bool). numberBy t (laidOf (length m) rs) (nearOf rs) (leb count mostRenders) room) (whole-is st w) in
       other-number (laidOf (length m) rs) (nearOf rs) (leb count mostRenders) room (sym is ∙ e)

@@ -1,4 +1,4 @@
--- `renders::render_all` meets its contract: `Filling` holds after each render. Assumes nothing.
+-- `renders::render_all` meets its contract: `Sectioning` holds after each render. Assumes nothing.
 use mathlib.Core.Path.{_≡_, refl, sym, _∙_}
 use Prim.Native.Nat.{_+_, _*_, _^_, _≤_, _<_}
 use native.Mathlib.Omega.{arith}
@@ -7,15 +7,15 @@ use lib.ListN.{length}
 use Rattle.ranges.specs.Ranges.{rangesOf}
 use Rattle.state.specs.State.{stateOf}
 use Rattle.calls.specs.Sections.{sectionDone}
-use Rattle.renders.proofs.Loop.{Filling, filling-begin, next-playing, lent-room, next-inside, filling-returned, filling-end}
-use Rattle.renders.proofs.Loop.{sectionable-sized}
+use Rattle.renders.proofs.Loop.{Sectioning, sectioning-begin, next-asked, lent-room, next-inside, sectioning-returned}
+use Rattle.renders.proofs.Loop.{sectioning-end, sectionable-sized}
 use Rattle.renders.proofs.render_all.Statement.{statement}
 use Rattle.renders.proofs.render_all.Tie as tie
 
 abbrev Inv-loop : tie.InvT-loop
 Inv-loop p count ranges memory words₀ longs₀ floats₀ contexts₀ history₀ frames₀ wide rounds₀ at₀ left₀
     words longs floats contexts history frames rounds at left =
-    Filling p (rangesOf ranges) memory
+    Sectioning p (rangesOf ranges) memory
     (sectionDone count (stateOf words₀ longs₀ floats₀ contexts₀ history₀) (rangesOf ranges) memory frames₀)
     (stateOf words longs floats contexts history) frames rounds at left
     × (wide ≡ 2 * p .«sample_count»)
@@ -50,7 +50,7 @@ lent-frames c = c .good .1 .1 .1 .1 .1 .1 .1 .1 .1 .0 .1
 -- ---- the loop
 
 loop-holds : tie.Need-loop-holds Inv-loop μ-loop
-loop-holds c = (filling-begin (started c .pre .0) (started c .pre .1), refl, refl)
+loop-holds c = (sectioning-begin (started c .pre .0) (started c .pre .1), refl, refl)
 
 mul-render : tie.Need-mul-render Inv-loop μ-loop
 mul-render c =
@@ -69,13 +69,14 @@ render-requires : tie.Need-render-requires Inv-loop μ-loop
 render-requires c κs =
     let t = tested (c .before) in
     let g = t .before .loop .inv .0 in
-    (next-playing g (t .loop-test .taken), lent-room g (t .loop-test .taken))
+    (next-asked g (t .loop-test .taken), lent-room g (t .loop-test .taken))
 
 add-rounds : tie.Need-add-rounds Inv-loop μ-loop
 add-rounds c =
     let r = called c .render in
     let t = turned (called c) in
-    omega (arith, filling-returned (t .before .loop .inv .0) (t .loop-test .taken) (r .ensures) (r .kept .1 .1 .1 .1 .1 .1 .1 .1 .0) .few)
+    let after = sectioning-returned (t .before .loop .inv .0) (t .loop-test .taken) (r .ensures) (r .kept .1 .1 .1 .1 .1 .1 .1 .1 .0) in
+    omega (arith, after .few)
 
 add-at : tie.Need-add-at Inv-loop μ-loop
 add-at c =
@@ -90,7 +91,7 @@ loop-again : tie.Need-loop-again Inv-loop μ-loop
 loop-again c =
     let r = called c .render in
     let t = turned (called c) in
-    let after = filling-returned (t .before .loop .inv .0) (t .loop-test .taken) (r .ensures) (r .kept .1 .1 .1 .1 .1 .1 .1 .1 .0) in
+    let after = sectioning-returned (t .before .loop .inv .0) (t .loop-test .taken) (r .ensures) (r .kept .1 .1 .1 .1 .1 .1 .1 .1 .0) in
     (after, t .before .loop .inv .1, search needs)
 
 same-length : tie.Need-same-length Inv-loop μ-loop
@@ -117,7 +118,7 @@ same-length-6 : tie.Need-same-length-6 Inv-loop μ-loop
 same-length-6 c = c .before .loop .inv .2
 
 returns : tie.Need-returns Inv-loop μ-loop
-returns c = filling-end (c .before .loop .inv .0) (omega (arith, c .loop-test .left))
+returns c = sectioning-end (c .before .loop .inv .0) (omega (arith, c .loop-test .left))
 
 pub render-all-spec : {M : Type 1} → statement M
 render-all-spec =

@@ -29,7 +29,7 @@ returns-4 c =
     let thirteen = five .before .before in
     let four = thirteen .before .before in
     section-fourteen _ _ _ _ _ (four .before .whole .ensures) (four .if1 .left) (thirteen .before .laid .ensures) (thirteen .if2 .left)
-    (five .before .near .ensures) (five .if3 .left) (c .before .few .ensures) (c .if4 .taken)
+    (five .before .near .ensures) (five .if3 .left) (c .before .renders-allowed .ensures) (c .if4 .taken)
 
 load-requires : tie.Need-load-requires
 load-requires c κs =
@@ -41,7 +41,7 @@ floats-for-requires c κs =
     let fourteen = c .before .before in
     let four = fourteen .before .before .before .before .before .before in
     floats-asked _ (four .before .whole .ensures) (four .if1 .left) (c .load .ensures)
-    (fourteen .before .few .ensures) (fourteen .if4 .left)
+    (fourteen .before .renders-allowed .ensures) (fourteen .if4 .left)
 
 returns-5 : tie.Need-returns-5
 returns-5 c =
@@ -50,7 +50,7 @@ returns-5 c =
     let thirteen = five .before .before in
     let four = thirteen .before .before in
     section-seven _ _ _ _ _ (four .before .whole .ensures) (four .if1 .left) (thirteen .before .laid .ensures) (thirteen .if2 .left)
-    (five .before .near .ensures) (five .if3 .left) (fourteen .before .few .ensures) (fourteen .if4 .left)
+    (five .before .near .ensures) (five .if3 .left) (fourteen .before .renders-allowed .ensures) (fourteen .if4 .left)
     (c .before .before .load .ensures) (c .before .floats-for .ensures) (c .if5 .taken)
 
 render-all-requires : tie.Need-render-all-requires
@@ -61,7 +61,7 @@ render-all-requires c κs =
     let thirteen = five .before .before in
     let four = thirteen .before .before in
     section-asked _ _ _ _ _ (four .before .whole .ensures) (four .if1 .left) (thirteen .before .laid .ensures) (thirteen .if2 .left)
-    (five .before .near .ensures) (five .if3 .left) (fourteen .before .few .ensures) (fourteen .if4 .left)
+    (five .before .near .ensures) (five .if3 .left) (fourteen .before .renders-allowed .ensures) (fourteen .if4 .left)
     (seven .before .before .load .ensures) (seven .before .floats-for .ensures) (seven .if5 .left)
 
 -- where the renders have answered
@@ -77,7 +77,7 @@ returns-6 c =
     let thirteen = five .before .before in
     let four = thirteen .before .before in
     section-done _ _ _ _ _ (four .before .whole .ensures) (four .if1 .left) (thirteen .before .laid .ensures) (thirteen .if2 .left)
-    (five .before .near .ensures) (five .if3 .left) (fourteen .before .few .ensures) (fourteen .if4 .left)
+    (five .before .near .ensures) (five .if3 .left) (fourteen .before .renders-allowed .ensures) (fourteen .if4 .left)
     (seven .before .before .load .ensures) (seven .before .floats-for .ensures) (seven .if5 .left) (answered .render-all .ensures)
 
 pub render-section-spec : {M : Type 1} → statement M
