@@ -1,4 +1,4 @@
--- A header by its parts, and a reading's outcome by its number. Assumes nothing.
+-- A header by its parts, a reading's outcome by its number, and an encoding's answer in numbers. Assumes nothing.
 use Prim.Native.Nat.{ℕ}
 use mathlib.Core.Bool.{Bool, true, false, cond}
 use mathlib.Core.List.{List}
@@ -10,7 +10,11 @@ use Rattle.adpcm.specs.declared.context.AdpcmContext.{AdpcmContext}
 use Rattle.dsp_header.specs.declared.DspHeader.{DspHeader}
 use Rattle.dsp_header.specs.Header.{headerSize}
 use Rattle.dsp_file.specs.File.{ReadOutcome, dataOf}
+use Rattle.encoder.specs.Answer.{encodeSeen}
+use Rattle.encoder.specs.declared.encode.EncodeAnswer.{EncodeAnswer}
+use Rattle.encoder.specs.declared.encode.EncodeAnswer.the-variants.{Done, ShortOutput}
 use Rattle.cabi.specs.Dsp.{Placed, placed}
+use Rattle.cabi.specs.Encode.{encodeLeft, encodeTold}
 
 -- a header with other contexts
 abbrev pub withContexts : AdpcmContext → AdpcmContext → DspHeader → DspHeader
@@ -46,3 +50,8 @@ module _ (o : ReadOutcome) (file : List ℕ) {n : ℕ} {h : DspHeader} (en : n �
 
   pub placed-refused : (n ≡ 0 → ⊥) → placedAs n h 0 0 ≡ placed o file
   placed-refused f = by false (ne-eqb (o .number) 0 (λ z. f (en ∙ z))) refl refl
+
+-- both ways of reading an encoding's answer agree
+pub encode-seen : (a : EncodeAnswer) (out : List ℕ) → encodeLeft (encodeTold a) out ≡ encodeSeen a out
+encode-seen (Done n e) out = refl
+encode-seen ShortOutput out = refl

@@ -1,3 +1,4 @@
 pub mod Answers
 pub mod Decode
 pub mod Dsp
+pub mod Encode

@@ -1,4 +1,4 @@
-// The call for ADPCM alone.
+// The call for decoding ADPCM, and what the calls for ADPCM share.
 ghost use mathlib.Core.Path.{_≡_};
 ghost use lib.IntN.{pos};
 ghost use lib.ListN.{getD};
@@ -24,6 +24,28 @@ pub struct JeqllunaDecoded {
     pub context: JeqllunaContext,
 }
 
+// A context as C has it.
+pub fn context_told(x: AdpcmContext) -> JeqllunaContext
+    ensures { λ r. ⌜ contextIn r ≡ x ⌝ }
+{
+    JeqllunaContext {
+        pred_scale: x.pred_scale,
+        history0: x.history0,
+        history1: x.history1,
+    }
+}
+
+// A context from C.
+pub fn context_in(x: JeqllunaContext) -> AdpcmContext
+    ensures { λ r. ⌜ r ≡ contextIn x ⌝ }
+{
+    AdpcmContext {
+        pred_scale: x.pred_scale,
+        history0: x.history0,
+        history1: x.history1,
+    }
+}
+
 // One coefficient; 0 past the end.
 fn coefficient_at(coefficients: &[i16], k: usize) -> i16
     ensures { λ r. ⌜ r ≡ getD (now (coefficients .entry)) k (pos 0) ⌝ }
@@ -35,7 +57,7 @@ fn coefficient_at(coefficients: &[i16], k: usize) -> i16
 }
 
 // The first sixteen coefficients.
-fn sixteen(coefficients: &[i16]) -> [i16; 16]
+pub fn sixteen(coefficients: &[i16]) -> [i16; 16]
     ensures { λ r. ⌜ r ≡ sixteenOf (now (coefficients .entry)) ⌝ }
 {
     let mut c = [0i16; 16];

@@ -1,10 +1,10 @@
 // The calls for DSP files.
 ghost use mathlib.Core.Path.{_≡_};
 ghost use Rattle.dsp_file.specs.File.{readNumber, readCall, writeCall};
-ghost use Rattle.cabi.specs.Decode.{contextIn};
 ghost use Rattle.cabi.specs.Dsp.{headerIn, placed, readIn, writeIn, writeTold};
 use crate::decode::JeqllunaContext;
-use adpcm::AdpcmContext;
+use crate::decode::context_in;
+use crate::decode::context_told;
 use dsp_file::DspAnswer;
 use dsp_file::DspWritten;
 use dsp_header::DspHeader;
@@ -41,28 +41,6 @@ pub struct JeqllunaDspWritten {
     pub number: u32,
     // How many bytes were written.
     pub size: usize,
-}
-
-// A context as C has it.
-fn context_told(x: AdpcmContext) -> JeqllunaContext
-    ensures { λ r. ⌜ contextIn r ≡ x ⌝ }
-{
-    JeqllunaContext {
-        pred_scale: x.pred_scale,
-        history0: x.history0,
-        history1: x.history1,
-    }
-}
-
-// A context from C.
-fn context_in(x: JeqllunaContext) -> AdpcmContext
-    ensures { λ r. ⌜ r ≡ contextIn x ⌝ }
-{
-    AdpcmContext {
-        pred_scale: x.pred_scale,
-        history0: x.history0,
-        history1: x.history1,
-    }
 }
 
 // A header as C has it.

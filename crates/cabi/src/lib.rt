@@ -3,6 +3,7 @@
 mod answers;
 mod decode;
 mod dsp;
+mod encode;
 
 pub use answers::JeqllunaLength;
 pub use answers::JeqllunaLengths;
@@ -17,6 +18,8 @@ pub use dsp::JeqllunaDspRead;
 pub use dsp::JeqllunaDspWritten;
 pub use dsp::jeqlluna_read_dsp;
 pub use dsp::jeqlluna_write_dsp;
+pub use encode::JeqllunaEncoded;
+pub use encode::jeqlluna_encode_adpcm;
 ghost use mathlib.Core.Path.{_≡_};
 ghost use Rattle.ranges.specs.Ranges.{rangesOf};
 ghost use Rattle.params.specs.Params.{parseOf};

@@ -1,0 +1,3 @@
+pub mod Encode
+pub mod Frame
+pub mod Answer

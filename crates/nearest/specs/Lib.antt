@@ -1,0 +1,3 @@
+pub mod Least
+pub mod Nearest
+pub mod Levels
