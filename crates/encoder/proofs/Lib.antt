@@ -1,7 +1,11 @@
 pub mod Packed
 pub mod Sizes
+pub mod Sums
+pub mod Unused
 pub mod Decoded
+pub mod Decoding
 pub mod Putting
 pub mod WholeFrame
 pub mod Going
 pub mod Answer
+pub mod Examples

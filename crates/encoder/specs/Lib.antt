@@ -1,3 +1,4 @@
 pub mod Encode
 pub mod Frame
+pub mod Sums
 pub mod Answer

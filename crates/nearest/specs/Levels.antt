@@ -1,9 +1,11 @@
 -- The samples that the sixteen nibbles decode to, in offset binary, where all sums are of natural numbers: they rise by the step 2^scale
 -- from one nibble to the next, and the nearest is worked out. Definitions only.
-use Prim.Native.Nat.{ℕ, _+_, _*_, _-_, _/_, _^_, min}
+use Prim.Native.Nat.{ℕ, _+_, _*_, _-_, _/_, _≤_, _<_, _^_, min}
+use mathlib.Core.Path.{_≡_}
 use mathlib.Core.Bool.{cond}
 use lib.Dec.{leb}
 use lib.IntN.{ℤ, pos, negsuc, natAbs, _+ℤ_, _*ℤ_}
+use Rattle.nearest.specs.Least.{leastOf}
 
 -- a sample in offset binary: -32768 to 32767 as 0 to 65535
 unfoldable pub offsetBinary : ℤ → ℕ
@@ -33,3 +35,9 @@ awayAt p predicted t r = apartOf t (levelAt p predicted r)
 -- the first rank whose sample, unclamped, reaches t, by as many steps as it takes from rank 0, rounded up; 16 where none does
 unfoldable pub reachOf : ℕ → ℕ → ℕ → ℕ
 reachOf p predicted t = cond (leb (t + originOf p) predicted) 0 (min 16 ((t + originOf p - predicted + (p - 1)) / p))
+
+-- the rank whose sample is nearest to t, the lowest of several, and that sample
+pub record NearestRank (p predicted t rank level : ℕ) : Type 0 where
+  pub rank-is : rank ≡ leastOf (awayAt p predicted t) 15
+  pub level-is : level ≡ levelAt p predicted rank
+  pub few : rank < 16

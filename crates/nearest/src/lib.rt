@@ -5,9 +5,8 @@ ghost use Prim.Native.Nat.{_≤_, _<_, _^_};
 ghost use mathlib.Core.Bool.{cond};
 ghost use lib.Dec.{eqb};
 ghost use lib.IntN.{subℕ, _*ℤ_};
-ghost use Rattle.nearest.specs.Least.{leastOf};
 ghost use Rattle.nearest.specs.Nearest.{Chosen};
-ghost use Rattle.nearest.specs.Levels.{offsetBinary, apartOf, predictionOf, levelAt, awayAt, reachOf};
+ghost use Rattle.nearest.specs.Levels.{offsetBinary, apartOf, predictionOf, levelAt, reachOf, NearestRank};
 
 // The sum that stands for the sample -32768, but for the eight steps from the nibble -8 to 0: 2^21 - 32768.
 const ORIGIN: u32 = 2064384;
@@ -93,21 +92,34 @@ fn first_reaching(t: u32, predicted: u32, s: u16) -> u32
     16
 }
 
-// The rank low; or 0 where its sample y is the lowest, since then every lower nibble has the same one.
-fn lowest_alike(y: u32, low: u32) -> u32
-    ensures { λ r. ⌜ r ≡ cond (eqb y 0) 0 low ⌝ }
-{
-    if y == 0 { 0 } else { low }
+// A rank, and the sample of its nibble.
+struct Near {
+    rank: u32,
+    level: u32,
 }
 
-// The rank whose sample is nearest to t, the lowest of several.
-fn nearest_rank(t: u32, predicted: u32, s: u16) -> u32
+// The rank low with its sample y; or rank 0 where y is the lowest sample, since then every lower nibble has the same one.
+fn lowest_alike(y: u32, low: u32) -> Near
+    ensures { λ r. ⌜ (r .rank ≡ cond (eqb y 0) 0 low) × (r .level ≡ y) ⌝ }
+{
+    if y == 0 {
+        return Near { rank: 0, level: y };
+    }
+    Near {
+        rank: low,
+        level: y,
+    }
+}
+
+// The rank whose sample is nearest to t, the lowest of several, and that sample.
+fn nearest_rank(t: u32, predicted: u32, s: u16) -> Near
     requires { ⌜ (t ≤ 65535) × (predicted < 2 ^ 22) × (s < 16) ⌝ }
-    ensures { λ r. ⌜ (r ≡ leastOf (awayAt (2 ^ s) predicted t) 15) × (r < 16) ⌝ }
+    ensures { λ r. ⌜ NearestRank (2 ^ s) predicted t (r .rank) (r .level) ⌝ }
 {
     let u = first_reaching(t, predicted, s);
     if u == 0 {
-        return 0;
+        let x = level(predicted, s, 0);
+        return Near { rank: 0, level: x };
     }
     let low = u - 1;
     let y = level(predicted, s, low);
@@ -116,7 +128,7 @@ fn nearest_rank(t: u32, predicted: u32, s: u16) -> u32
     }
     let z = level(predicted, s, u);
     if z - t < t - y {
-        return u;
+        return Near { rank: u, level: z };
     }
     lowest_alike(y, low)
 }
@@ -135,9 +147,9 @@ pub fn choose_nibble(x: i16, s: u16, c: i16, d: i16, h0: i16, h1: i16) -> Choice
 {
     let t = offset_binary(x);
     let predicted = prediction(c, d, h0, h1);
-    let r = nearest_rank(t, predicted, s);
-    let y = level(predicted, s, r);
-    let nibble = ((r + 8) % 16) as u8;
+    let near = nearest_rank(t, predicted, s);
+    let nibble = ((near.rank + 8) % 16) as u8;
+    let y = near.level;
     let sample = from_offset_binary(y);
     let difference = apart(t, y);
     Choice {
