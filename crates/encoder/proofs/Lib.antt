@@ -1,5 +1,6 @@
 pub mod Packed
 pub mod Sizes
+pub mod FrameDecoded
 pub mod Decoded
 pub mod Putting
 pub mod WholeFrame

@@ -1,6 +1,6 @@
 -- An integer as the difference of two natural numbers: sums, products, floors and the decoder's clamp of such. Assumes nothing.
 use Prim.Native.Nat.{ℕ, zero, suc, _+_, _*_, _-_, _/_, _≤_, _<_, min}
-use mathlib.Core.Path.{_≡_, refl, sym, ap, _∙_}
+use mathlib.Core.Path.{_≡_, refl, ap, _∙_}
 use mathlib.Core.Bool.{Bool, true, false, cond}
 use native.Mathlib.Nat.{add-mul}
 use native.Mathlib.Omega.{arith}
@@ -14,7 +14,7 @@ use mir.Val.{SFits}
 use Rattle.adpcm.specs.Step.{clampZ}
 use Rattle.nearest.specs.Levels.{offsetBinary, apartOf}
 
--- by the two cases of a difference
+-- a - b as an integer, by whether a < b; each law on differences goes by these two cases
 abbrev split : Bool → ℕ → ℕ → ℤ
 split t a b = cond t (negsuc (b - suc a)) (pos (a - b))
 
@@ -55,10 +55,12 @@ diff-minus (suc n) = diff-neg n
 
 add-by : (a b e f : ℕ) (t u : Bool) → ltb a b ≡ t → ltb e f ≡ u → split t a b +ℤ split u e f ≡ subℕ (a + e) (b + f)
 add-by a b e f true true p q =
-    diff-neg (suc (b - suc a + (f - suc e))) ∙ diff-same 0 (suc (suc (b - suc a + (f - suc e)))) (a + e) (b + f) (omega (arith, ltb-true a b p, ltb-true e f q))
+    let n = suc (b - suc a + (f - suc e)) in
+    diff-neg n ∙ diff-same 0 (suc n) (a + e) (b + f) (omega (arith, ltb-true a b p, ltb-true e f q))
 add-by a b e f true false p q = diff-same (e - f) (suc (b - suc a)) (a + e) (b + f) (omega (arith, ltb-true a b p, ltb-false e f q))
 add-by a b e f false true p q = diff-same (a - b) (suc (f - suc e)) (a + e) (b + f) (omega (arith, ltb-false a b p, ltb-true e f q))
-add-by a b e f false false p q = diff-pos (a - b + (e - f)) ∙ diff-same (a - b + (e - f)) 0 (a + e) (b + f) (omega (arith, ltb-false a b p, ltb-false e f q))
+add-by a b e f false false p q =
+    diff-pos (a - b + (e - f)) ∙ diff-same (a - b + (e - f)) 0 (a + e) (b + f) (omega (arith, ltb-false a b p, ltb-false e f q))
 
 pub diff-add : (a b e f : ℕ) → subℕ a b +ℤ subℕ e f ≡ subℕ (a + e) (b + f)
 diff-add a b e f = add-by a b e f (ltb a b) (ltb e f) refl refl
@@ -94,12 +96,14 @@ floor-by a k false false p q =
 pub diff-floor : (a k : ℕ) → shrZ (subℕ a (2048 * k)) 2048 ≡ subℕ (a / 2048) k
 diff-floor a k = floor-by a k (ltb a (2048 * k)) (ltb (a / 2048) k) refl refl
 
-clamp-low : (n y o : ℕ) (t : Bool) → ltb 32767 n ≡ t → n ≡ o - suc y → y < o → offsetBinary (cond t (negsuc 32767) (negsuc n)) ≡ min 65535 (y + 32768 - o)
+clamp-low : (n y o : ℕ) (t : Bool) → ltb 32767 n ≡ t → n ≡ o - suc y → y < o
+    → offsetBinary (cond t (negsuc 32767) (negsuc n)) ≡ min 65535 (y + 32768 - o)
 unfolding offsetBinary
 clamp-low n y o true p e h = omega (arith, ltb-true 32767 n p)
 clamp-low n y o false p e h = omega (arith, ltb-false 32767 n p)
 
-clamp-high : (n y o : ℕ) (t : Bool) → ltb 32767 n ≡ t → n ≡ y - o → o ≤ y → offsetBinary (cond t (pos 32767) (pos n)) ≡ min 65535 (y + 32768 - o)
+clamp-high : (n y o : ℕ) (t : Bool) → ltb 32767 n ≡ t → n ≡ y - o → o ≤ y
+    → offsetBinary (cond t (pos 32767) (pos n)) ≡ min 65535 (y + 32768 - o)
 unfolding offsetBinary
 clamp-high n y o true p e h = omega (arith, ltb-true 32767 n p)
 clamp-high n y o false p e h = omega (arith, ltb-false 32767 n p)
@@ -109,7 +113,7 @@ unfolding clampZ
 clamp-by y o true p = clamp-low (o - suc y) y o (ltb 32767 (o - suc y)) refl refl (ltb-true y o p)
 clamp-by y o false p = clamp-high (y - o) y o (ltb 32767 (y - o)) refl refl (ltb-false y o p)
 
--- a clamped difference, from originOf: the subtraction stops at 0 by itself
+-- a clamped difference, in offset binary: the clamp at -32768 is a subtraction that stops at 0
 pub diff-clamp : (y o : ℕ) → offsetBinary (clampZ (subℕ y o)) ≡ min 65535 (y + 32768 - o)
 diff-clamp y o = clamp-by y o (ltb y o) refl
 

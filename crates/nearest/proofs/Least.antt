@@ -10,6 +10,7 @@ use lib.Dec.{ltb}
 use Rattle.nearest.specs.Least.{better, leastOf, First}
 
 module _ (f : ℕ → ℕ) where
+  -- of place 0 alone
   pub first-none : First f 0 0
   first-none = record { within = omega arith; least = none; first = λ k h. absurd (omega arith) }
     where
@@ -17,11 +18,15 @@ module _ (f : ℕ → ℕ) where
       none zero h = omega arith
       none (suc k) h = absurd (omega arith)
 
+  -- a place up to the next one is that one, or lies before it
+  either : {P : Type 0} (n k : ℕ) → k ≤ suc n → (k ≡ suc n → P) → (k ≤ n → P) → P
+  either n k h p q = ⊎-elim p (λ (l : k < suc n). q (omega arith)) (eq-or-lt-of-le h)
+
   -- one place more, which is less than all before it
   pub first-take : (n best : ℕ) → First f n best → f (suc n) < f best → First f (suc n) (suc n)
   first-take n best p less = record {
     within = omega arith;
-    least = λ k h. ⊎-elim (λ (q : k ≡ suc n). rw q (omega arith)) (λ (q : k < suc n). omega (arith, p .least k (omega arith))) (eq-or-lt-of-le h);
+    least = λ k h. either n k h (λ q. rw q (omega arith)) (λ q. omega (arith, p .least k q));
     first = λ k h. omega (arith, p .least k (omega arith));
   }
 
@@ -29,7 +34,7 @@ module _ (f : ℕ → ℕ) where
   pub first-keep : (n best : ℕ) → First f n best → f best ≤ f (suc n) → First f (suc n) best
   first-keep n best p more = record {
     within = omega (arith, p .within);
-    least = λ k h. ⊎-elim (λ (q : k ≡ suc n). rw q (omega arith)) (λ (q : k < suc n). p .least k (omega arith)) (eq-or-lt-of-le h);
+    least = λ k h. either n k h (λ q. rw q (omega arith)) (p .least k);
     first = p .first;
   }
 
@@ -41,6 +46,7 @@ module _ (f : ℕ → ℕ) where
   unfolding better
   first-more n best p = by-case n best p (ltb (f (suc n)) (f best)) refl
 
+  -- `leastOf` is such a place
   pub least-first : (n : ℕ) → First f n (leastOf f n)
   unfolding leastOf
   least-first zero = first-none

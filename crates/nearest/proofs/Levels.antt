@@ -1,5 +1,5 @@
 -- The decoder's step of the nibble of rank r, in offset binary, is its level. Assumes nothing.
-use Prim.Native.Nat.{ℕ, zero, suc, _+_, _*_, _-_, _/_, _%_, _≤_, _<_, _^_, min}
+use Prim.Native.Nat.{ℕ, suc, _+_, _*_, _-_, _/_, _≤_, _<_, _^_, min}
 use mathlib.Core.Path.{_≡_, refl, sym, ap, _∙_}
 use mathlib.Core.Bool.{Bool, true, false, cond}
 use native.Mathlib.Nat.{mul-left-comm}
@@ -37,7 +37,8 @@ counted-below (pos m) h = omega arith
 counted-below (negsuc m) h = omega arith
 
 -- two products of 16-bit numbers and 2^32 + 1024: the sum is not negative
-pub sum-is : (x y : ℤ) → mag x < 2 ^ 31 → mag y < 2 ^ 31 → x +ℤ y +ℤ pos (2 ^ 32 + 1024) ≡ pos (countedFrom (2 ^ 31) x + countedFrom (2 ^ 31) y + 1024)
+pub sum-is : (x y : ℤ) → mag x < 2 ^ 31 → mag y < 2 ^ 31
+    → x +ℤ y +ℤ pos (2 ^ 32 + 1024) ≡ pos (countedFrom (2 ^ 31) x + countedFrom (2 ^ 31) y + 1024)
 sum-is x y p q =
     let a = countedFrom (2 ^ 31) x in
     let b = countedFrom (2 ^ 31) y in
@@ -65,10 +66,14 @@ module _ (c d h0 h1 : ℤ) (one : mag (c *ℤ h0) < 2 ^ 31) (two : mag (d *ℤ h
     abbrev m : ℕ
     m = 2 ^ (11 + s)
 
+    -- what stands for a sum of 0: rank 8, and 2^31 for each product
+    abbrev o : ℕ
+    o = 8 * m + 2 ^ 31 + 2 ^ 31 + 0
+
     m-is : m ≡ 2048 * 2 ^ s
     m-is = pow-add 2 11 s
 
-    whole-is : signed4 (nibbleAt r) *ℤ pos m +ℤ c *ℤ h0 +ℤ d *ℤ h1 +ℤ pos 1024 ≡ subℕ (r * m + a + b + 1024) (8 * m + 2 ^ 31 + 2 ^ 31 + 0)
+    whole-is : signed4 (nibbleAt r) *ℤ pos m +ℤ c *ℤ h0 +ℤ d *ℤ h1 +ℤ pos 1024 ≡ subℕ (r * m + a + b + 1024) o
     whole-is =
         (λ i. signed-at r few i *ℤ pos m +ℤ counted-is (2 ^ 31) (c *ℤ h0) one i +ℤ counted-is (2 ^ 31) (d *ℤ h1) two i +ℤ diff-pos 1024 i)
         ∙ (λ i. diff-mul r 8 m i +ℤ subℕ a (2 ^ 31) +ℤ subℕ b (2 ^ 31) +ℤ subℕ 1024 0)
@@ -76,19 +81,21 @@ module _ (c d h0 h1 : ℤ) (one : mag (c *ℤ h0) < 2 ^ 31) (two : mag (d *ℤ h
         ∙ (λ i. diff-add (r * m + a) (8 * m + 2 ^ 31) b (2 ^ 31) i +ℤ subℕ 1024 0)
         ∙ diff-add (r * m + a + b) (8 * m + 2 ^ 31 + 2 ^ 31) 1024 0
 
+    -- the decoder's sample of the nibble of rank r is its level
     pub step-level : offsetBinary (stepOf (nibbleAt r) s c d h0 h1) ≡ levelAt (2 ^ s) (predictionOf c d h0 h1) r
     unfolding stepOf
     step-level =
         let p = 2 ^ s in
         let n = r * m + a + b + 1024 in
-        let e : subℕ n (8 * m + 2 ^ 31 + 2 ^ 31 + 0) ≡ subℕ n (2048 * (8 * p + 2 ^ 21)) = diff-same n (8 * m + 2 ^ 31 + 2 ^ 31 + 0) n (2048 * (8 * p + 2 ^ 21)) (omega (arith, m-is)) in
+        let z = 8 * p + 2 ^ 21 in
+        let e : subℕ n o ≡ subℕ n (2048 * z) = diff-same n o n (2048 * z) (omega (arith, m-is)) in
         let f : n / 2048 ≡ r * p + (a + b + 1024) / 2048 =
         (let g : r * m ≡ 2048 * (r * p) = ap (λ (k : ℕ). r * k) m-is ∙ mul-left-comm r 2048 p in omega (arith, g)) in
-        ap (λ (z : ℤ). offsetBinary (clampZ (shrZ z 2048))) (whole-is ∙ e)
-        ∙ ap (λ (z : ℤ). offsetBinary (clampZ z)) (diff-floor n (8 * p + 2 ^ 21))
-        ∙ diff-clamp (n / 2048) (8 * p + 2 ^ 21)
-        ∙ (λ i. min 65535 (f i + 32768 - (8 * p + 2 ^ 21)))
-        ∙ (λ i. min 65535 (r * p + sym prediction-is i + 32768 - (8 * p + 2 ^ 21)))
+        ap (λ (x : ℤ). offsetBinary (clampZ (shrZ x 2048))) (whole-is ∙ e)
+        ∙ ap (λ (x : ℤ). offsetBinary (clampZ x)) (diff-floor n z)
+        ∙ diff-clamp (n / 2048) z
+        ∙ (λ i. min 65535 (f i + 32768 - z))
+        ∙ (λ i. min 65535 (r * p + sym prediction-is i + 32768 - z))
         ∙ last (r * p) (predictionOf c d h0 h1) p
       where
         last : (x y p : ℕ) → min 65535 (x + y + 32768 - (8 * p + 2 ^ 21)) ≡ min 65535 (x + y - originOf p)

@@ -31,6 +31,10 @@ module _ (t : ℤ) (s : ℕ) (c d h0 h1 : ℤ) where
   abbrev near : ℕ
   near = nearestOf t s c d h0 h1
 
+  -- how far the sample of a nibble is from t
+  abbrev off : ℕ → ℕ
+  off v = differenceOf t (stepOf v s c d h0 h1)
+
   abbrev rank : ℕ
   rank = leastOf (differenceAt t s c d h0 h1) 15
 
@@ -41,11 +45,11 @@ module _ (t : ℤ) (s : ℕ) (c d h0 h1 : ℤ) where
   unfolding nearestOf
   nearest-below = omega arith
 
-  at-rank : (v : ℕ) → v < 16 → differenceAt t s c d h0 h1 (rankOf v) ≡ differenceOf t (stepOf v s c d h0 h1)
+  at-rank : (v : ℕ) → v < 16 → differenceAt t s c d h0 h1 (rankOf v) ≡ off v
   unfolding differenceAt
-  at-rank v h = ap (λ (w : ℕ). differenceOf t (stepOf w s c d h0 h1)) (nibble-rank v h)
+  at-rank v h = ap off (nibble-rank v h)
 
-  at-near : differenceAt t s c d h0 h1 rank ≡ differenceOf t (stepOf near s c d h0 h1)
+  at-near : differenceAt t s c d h0 h1 rank ≡ off near
   unfolding differenceAt nearestOf
   at-near = refl
 
@@ -54,11 +58,11 @@ module _ (t : ℤ) (s : ℕ) (c d h0 h1 : ℤ) where
   rank-near = omega (arith, found .within)
 
   -- no nibble's sample is nearer
-  pub nearest-least : (v : ℕ) → v < 16 → differenceOf t (stepOf near s c d h0 h1) ≤ differenceOf t (stepOf v s c d h0 h1)
+  pub nearest-least : (v : ℕ) → v < 16 → off near ≤ off v
   nearest-least v h = omega (arith, found .least (rankOf v) (omega arith), at-rank v h, at-near)
 
   -- and one with a lower signed number is farther
-  pub nearest-lowest : (v : ℕ) → v < 16 → signed4 v <ℤ signed4 near → differenceOf t (stepOf near s c d h0 h1) < differenceOf t (stepOf v s c d h0 h1)
+  pub nearest-lowest : (v : ℕ) → v < 16 → signed4 v <ℤ signed4 near → off near < off v
   nearest-lowest v h l =
       omega (arith, found .first (rankOf v) (omega (arith, rank-less v near h nearest-below l, rank-near)), at-rank v h, at-near)
 
@@ -68,7 +72,8 @@ pub chosen-by : {x x′ c c′ d d′ h0 h0′ h1 h1′ : ℤ} (s : ℕ) {v : �
 chosen-by s ex ec ed e0 e1 k = record {
   nibble-is = k .nibble-is ∙ (λ i. nearestOf (ex i) s (ec i) (ed i) (e0 i) (e1 i));
   sample-is = k .sample-is ∙ (λ i. stepOf (nearestOf (ex i) s (ec i) (ed i) (e0 i) (e1 i)) s (ec i) (ed i) (e0 i) (e1 i));
-  difference-is = k .difference-is ∙ (λ i. differenceOf (ex i) (stepOf (nearestOf (ex i) s (ec i) (ed i) (e0 i) (e1 i)) s (ec i) (ed i) (e0 i) (e1 i)));
+  difference-is = k .difference-is
+      ∙ (λ i. differenceOf (ex i) (stepOf (nearestOf (ex i) s (ec i) (ed i) (e0 i) (e1 i)) s (ec i) (ed i) (e0 i) (e1 i)));
   small = k .small;
 }
 

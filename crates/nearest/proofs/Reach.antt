@@ -1,6 +1,6 @@
 -- The nearest nibble worked out: it is the first whose sample, unclamped, reaches t, or the one before it. Assumes nothing.
 use Prim.Native.Nat.{ℕ, zero, suc, _+_, _*_, _-_, _/_, _≤_, _<_, min}
-use mathlib.Core.Path.{_≡_, refl, sym, ap, _∙_}
+use mathlib.Core.Path.{_≡_, refl, ap, _∙_}
 use mathlib.Core.Bool.{Bool, true, false, cond}
 use mathlib.Core.Logic.{_⊎_, inl, inr, ⊎-elim}
 use native.Mathlib.Nat.{mul-le-mul-right, add-mul, one-mul, div-mul-le-self, lt-div-mul-add, le-of-lt}
@@ -48,12 +48,14 @@ module _ (p predicted t : ℕ) where
   unfolding reachOf
   reach-none h = simp (le-leb (t + originOf p) predicted h)
 
-  pub reach-some : (q : ℕ) → predicted < t + originOf p → q ≡ (t + originOf p - predicted + (p - 1)) / p → min 16 q ≡ reachOf p predicted t
+  pub reach-some : (q : ℕ) → predicted < t + originOf p → q ≡ (t + originOf p - predicted + (p - 1)) / p
+      → min 16 q ≡ reachOf p predicted t
   unfolding reachOf
   reach-some q h e = ap (min 16) e ∙ simp (lt-leb (t + originOf p) predicted h)
 
 module _ (p predicted t : ℕ) (some : 0 < p) where
-  reach-by : (b : Bool) → leb (t + originOf p) predicted ≡ b → Reaches p predicted t (cond b 0 (min 16 ((t + originOf p - predicted + (p - 1)) / p)))
+  reach-by : (b : Bool) → leb (t + originOf p) predicted ≡ b
+      → Reaches p predicted t (cond b 0 (min 16 ((t + originOf p - predicted + (p - 1)) / p)))
   reach-by true e =
       let h : t + originOf p ≤ predicted = leb-true _ _ e in
       record { within = omega arith; lower = λ r l. absurd (omega arith); upper = λ r l m. omega arith }
@@ -78,6 +80,9 @@ module _ (p predicted t : ℕ) (some : 0 < p) where
     abbrev y : ℕ → ℕ
     y r = levelAt p predicted r
 
+    abbrev away : ℕ → ℕ
+    away = awayAt p predicted t
+
     rises : (r k : ℕ) → r ≤ k → y r ≤ y k
     rises r k h = omega (arith, mul-le-mul-right p h)
 
@@ -87,7 +92,7 @@ module _ (p predicted t : ℕ) (some : 0 < p) where
     pub over : (r : ℕ) → u ≤ r → r < 16 → t ≤ y r
     over r h l = omega (arith, up .upper r h l)
 
-    -- below u the samples differ, once they are above the lowest_alike
+    -- below u the samples rise, once they are above the lowest sample
     steep : (r k : ℕ) → r < k → k < u → 0 < y k → y r < y k
     steep r k h l z =
         let m : (r + 1) * p ≤ k * p = mul-le-mul-right p (omega arith) in
@@ -100,7 +105,7 @@ module _ (p predicted t : ℕ) (some : 0 < p) where
         go true e = inl (ltb-true k u e)
         go false e = inr (ltb-false k u e)
 
-    pub quick-none : u ≡ 0 → First (awayAt p predicted t) 15 0
+    pub quick-none : u ≡ 0 → First away 15 0
     quick-none e = record {
       within = omega arith;
       least = λ k h. over-le t (y 0) (y k) (over 0 (omega arith) (omega arith)) (rises 0 k (omega arith));
@@ -108,15 +113,23 @@ module _ (p predicted t : ℕ) (some : 0 < p) where
     }
 
     module _ (low : ℕ) (before : u ≡ low + 1) where
-      least-low : (u < 16 → t - y low ≤ y u - t) → (best : ℕ) → best < u → y best ≡ y low → (k : ℕ) → k ≤ 15 → awayAt p predicted t best ≤ awayAt p predicted t k
-      least-low f best b e k h =
-          ⊎-elim
-          (λ (l : k < u). under-le t (y best) (y k) (under best b) (rw e (rises k low (omega arith))))
-          (λ (g : u ≤ k). low-le t (y best) (y u) (y k) (under best b) (over u (omega arith) (omega arith)) (rises u k g) (rw e (f (omega arith))))
-          (either k)
+      -- u is not nearer than the one before
+      abbrev Under : Type 0
+      Under = u < 16 → t - y low ≤ y u - t
+
+      least-low : Under → (best : ℕ) → best < u → y best ≡ y low → (k : ℕ) → k ≤ 15 → away best ≤ away k
+      least-low f best b e k h = ⊎-elim lower upper (either k)
+        where
+          lower : k < u → away best ≤ away k
+          lower l = under-le t (y best) (y k) (under best b) (rw e (rises k low (omega arith)))
+
+          upper : u ≤ k → away best ≤ away k
+          upper g =
+              let o = over u (omega arith) (omega arith) in
+              low-le t (y best) (y u) (y k) (under best b) o (rises u k g) (rw e (f (omega arith)))
 
       -- the one before, where no lower one has the same sample
-      quick-low : (u < 16 → t - y low ≤ y u - t) → 0 < y low → First (awayAt p predicted t) 15 low
+      quick-low : Under → 0 < y low → First away 15 low
       quick-low f z = record {
         within = omega (arith, up .within);
         least = least-low f low (omega arith) refl;
@@ -124,26 +137,29 @@ module _ (p predicted t : ℕ) (some : 0 < p) where
       }
 
       -- and where all lower ones have it
-      quick-flat : (u < 16 → t - y low ≤ y u - t) → y low ≡ 0 → First (awayAt p predicted t) 15 0
+      quick-flat : Under → y low ≡ 0 → First away 15 0
       quick-flat f z =
           let e : y 0 ≡ y low = omega (arith, rises 0 low (omega arith)) in
           record { within = omega arith; least = least-low f 0 (omega arith) e; first = λ k h. absurd (omega arith) }
 
-      low-by : (b : Bool) → eqb (y low) 0 ≡ b → (u < 16 → t - y low ≤ y u - t) → First (awayAt p predicted t) 15 (cond b 0 low)
+      low-by : (b : Bool) → eqb (y low) 0 ≡ b → Under → First away 15 (cond b 0 low)
       low-by true e f = quick-flat f (eqb-true (y low) 0 e)
       low-by false e f = quick-low f (positive (y low) (eqb-false (y low) 0 e))
 
-      -- the lowest_alike one with the sample of the one before
-      pub quick-under : (u < 16 → t - y low ≤ y u - t) → First (awayAt p predicted t) 15 (cond (eqb (y low) 0) 0 low)
+      -- the lowest one with the sample of the one before
+      pub quick-under : Under → First away 15 (cond (eqb (y low) 0) 0 low)
       quick-under = low-by (eqb (y low) 0) refl
 
       -- the one that reaches t
-      pub quick-up : u < 16 → y u - t < t - y low → First (awayAt p predicted t) 15 u
+      pub quick-up : u < 16 → y u - t < t - y low → First away 15 u
       quick-up l f = record {
         within = omega arith;
-        least = λ k h. ⊎-elim (λ (m : k < u). le-of-lt (farther k m)) (λ (g : u ≤ k). over-le t (y u) (y k) (over u (omega arith) l) (rises u k g)) (either k);
+        least = λ k h. ⊎-elim (λ (m : k < u). le-of-lt (farther k m)) (nearer k) (either k);
         first = farther;
       }
         where
-          farther : (k : ℕ) → k < u → awayAt p predicted t u < awayAt p predicted t k
+          nearer : (k : ℕ) → u ≤ k → away u ≤ away k
+          nearer k g = over-le t (y u) (y k) (over u (omega arith) l) (rises u k g)
+
+          farther : (k : ℕ) → k < u → away u < away k
           farther k m = up-lt t (y low) (y u) (y k) (under low (omega arith)) (over u (omega arith) l) (rises k low (omega arith)) f

@@ -1,19 +1,18 @@
--- `nearest::choose_nibble` meets its contract: the numbers counted from originOf are those of the definition. Assumes nothing.
-use mathlib.Core.Path.{_≡_, refl, sym, ap, _∙_}
-use Prim.Native.Nat.{ℕ, _+_, _%_, _≤_, _<_, _^_}
+-- `nearest::choose_nibble` meets its contract: what is worked out in offset binary is what the definition says. Assumes nothing.
+use mathlib.Core.Path.{_≡_, ap, _∙_}
+use Prim.Native.Nat.{ℕ, _≤_, _<_, _^_}
 use borrow.Author.Needs.{needs}
 use native.Mathlib.Omega.{arith}
 use lib.IntN.{ℤ, subℕ, _*ℤ_}
 use lib.Signed.{mag}
 use mir.Syntax.{w16}
-use mir.Val.{SFits}
 use mir.Facts.{toZ-ofZ}
 use Rattle.adpcm.specs.Step.{stepOf, step-fits}
 use Rattle.nearest.specs.Least.{leastOf}
-use Rattle.nearest.specs.Nearest.{differenceOf, nearestOf, Chosen}
+use Rattle.nearest.specs.Nearest.{differenceOf, nibbleAt, nearestOf}
 use Rattle.adpcm.proofs.Ints.{mul16, back}
 use Rattle.nearest.specs.Levels.{offsetBinary, apartOf, predictionOf, levelAt, awayAt}
-use Rattle.nearest.proofs.Offsets.{offset-le, offset-back}
+use Rattle.nearest.proofs.Offsets.{offset-back}
 use Rattle.nearest.proofs.Ranks.{nibble-is, sample-is, difference-is}
 use Rattle.nearest.proofs.choose_nibble.Statement.{statement}
 use Rattle.nearest.proofs.choose_nibble.Tie as tie
@@ -42,76 +41,98 @@ from-offset-binary-requires c κs = search needs
 apart-requires : tie.Need-apart-requires
 apart-requires c κs = search needs
 
-module _ (c : tie.After-apart) where
-  abbrev a : tie.Start
-  a = c .before .before .before .before .before .before
-
-  abbrev s : ℕ
-  s = a .args .s
+-- after the last call: the arguments, and what the calls gave
+module _ (end : tie.After-apart) where
+  abbrev start : tie.Start
+  start = end .before .before .before .before .before .before
 
   abbrev x : ℤ
-  x = a .args .x
+  x = start .args .x
 
-  abbrev b₀ : ℕ
-  b₀ = predictionOf (a .args .c) (a .args .d) (a .args .h0) (a .args .h1)
+  abbrev s : ℕ
+  s = start .args .s
+
+  abbrev c : ℤ
+  c = start .args .c
+
+  abbrev d : ℤ
+  d = start .args .d
+
+  abbrev h0 : ℤ
+  h0 = start .args .h0
+
+  abbrev h1 : ℤ
+  h1 = start .args .h1
 
   abbrev t : ℕ
-  t = c .before .before .before .before .before .offset-binary .result
+  t = end .before .before .before .before .before .offset-binary .result
 
-  abbrev b : ℕ
-  b = c .before .before .before .before .prediction .result
+  abbrev predicted : ℕ
+  predicted = end .before .before .before .before .prediction .result
 
   abbrev r : ℕ
-  r = c .before .before .before .nearest-rank .result
+  r = end .before .before .before .nearest-rank .result
 
   abbrev y : ℕ
-  y = c .before .before .level .result
+  y = end .before .before .level .result
 
   t-is : t ≡ offsetBinary x
-  t-is = c .before .before .before .before .before .offset-binary .ensures .0 ∙ ap offsetBinary (toZ-ofZ (a .fits .x))
-
-  b-is : b ≡ b₀
-  b-is = c .before .before .before .before .prediction .ensures .0
-      ∙ (λ i. predictionOf (toZ-ofZ (a .fits .c) i) (toZ-ofZ (a .fits .d) i) (toZ-ofZ (a .fits .h0) i) (toZ-ofZ (a .fits .h1) i))
-
-  r-is : r ≡ leastOf (awayAt (2 ^ s) b₀ (offsetBinary x)) 15
-  r-is = c .before .before .before .nearest-rank .ensures .0 ∙ (λ i. leastOf (awayAt (2 ^ s) (b-is i) (t-is i)) 15)
-
-  few : r < 16
-  few = c .before .before .before .nearest-rank .ensures .1
-
-  y-is : y ≡ levelAt (2 ^ s) b₀ r
-  y-is = c .before .before .level .ensures .0 ∙ (λ i. levelAt (2 ^ s) (b-is i) r)
-
-  one : mag (a .args .c *ℤ a .args .h0) < 2 ^ 31
-  one = omega (arith, mul16 (a .fits .c) (a .fits .h0))
-
-  two : mag (a .args .d *ℤ a .args .h1) < 2 ^ 31
-  two = omega (arith, mul16 (a .fits .d) (a .fits .h1))
-
-  abbrev reconstructed : ℤ
-  reconstructed = stepOf (nearestOf x s (a .args .c) (a .args .d) (a .args .h0) (a .args .h1)) s (a .args .c) (a .args .d) (a .args .h0) (a .args .h1)
-
-  lifts : y ≡ offsetBinary reconstructed
-  lifts = y-is ∙ sample-is x s (a .args .c) (a .args .d) (a .args .h0) (a .args .h1) (a .fits .x) one two r r-is few
-
-  off : c .apart .result ≡ differenceOf x reconstructed
-  off = c .apart .ensures ∙ (λ i. apartOf (t-is i) (y-is i)) ∙ difference-is x s (a .args .c) (a .args .d) (a .args .h0) (a .args .h1) (a .fits .x) one two r r-is few
-
-  y-le : y ≤ 65535
-  y-le = c .before .before .level .ensures .1
+  t-is = end .before .before .before .before .before .offset-binary .ensures .0 ∙ ap offsetBinary (toZ-ofZ (start .fits .x))
 
   t-le : t ≤ 65535
-  t-le = c .before .before .before .before .before .offset-binary .ensures .1
+  t-le = end .before .before .before .before .before .offset-binary .ensures .1
+
+  predicted-is : predicted ≡ predictionOf c d h0 h1
+  predicted-is =
+      let f = start .fits in
+      end .before .before .before .before .prediction .ensures .0
+      ∙ (λ i. predictionOf (toZ-ofZ (f .c) i) (toZ-ofZ (f .d) i) (toZ-ofZ (f .h0) i) (toZ-ofZ (f .h1) i))
+
+  r-is : r ≡ leastOf (awayAt (2 ^ s) (predictionOf c d h0 h1) (offsetBinary x)) 15
+  r-is = end .before .before .before .nearest-rank .ensures .0 ∙ (λ i. leastOf (awayAt (2 ^ s) (predicted-is i) (t-is i)) 15)
+
+  few : r < 16
+  few = end .before .before .before .nearest-rank .ensures .1
+
+  y-is : y ≡ levelAt (2 ^ s) (predictionOf c d h0 h1) r
+  y-is = end .before .before .level .ensures .0 ∙ (λ i. levelAt (2 ^ s) (predicted-is i) r)
+
+  y-le : y ≤ 65535
+  y-le = end .before .before .level .ensures .1
+
+  one : mag (c *ℤ h0) < 2 ^ 31
+  one = omega (arith, mul16 (start .fits .c) (start .fits .h0))
+
+  two : mag (d *ℤ h1) < 2 ^ 31
+  two = omega (arith, mul16 (start .fits .d) (start .fits .h1))
+
+  -- the sample of the nearest nibble, by the decoder's step
+  abbrev nearest : ℤ
+  nearest = stepOf (nearestOf x s c d h0 h1) s c d h0 h1
+
+  y-nearest : y ≡ offsetBinary nearest
+  y-nearest = y-is ∙ sample-is x s c d h0 h1 (start .fits .x) one two r r-is few
+
+  sample-nearest : subℕ y 32768 ≡ nearest
+  sample-nearest = ap (λ (n : ℕ). subℕ n 32768) y-nearest ∙ offset-back nearest (step-fits _ _ _ _ _ _)
+
+  off : end .apart .result ≡ differenceOf x nearest
+  off = end .apart .ensures
+      ∙ (λ i. apartOf (t-is i) (y-is i))
+      ∙ difference-is x s c d h0 h1 (start .fits .x) one two r r-is few
+
+  chosen : nibbleAt r ≡ nearestOf x s c d h0 h1
+  chosen = nibble-is x s c d h0 h1 (start .fits .x) one two r r-is few
 
 returns : tie.Need-returns
-returns c = record {
-  nibble-is = nibble-is (x c) (s c) (a c .args .c) (a c .args .d) (a c .args .h0) (a c .args .h1) (a c .fits .x) (one c) (two c) (r c) (r-is c) (few c);
-  sample-is = back w16 (c .before .from-offset-binary .result) (c .before .from-offset-binary .ok) ∙ c .before .from-offset-binary .ensures
-      ∙ ap (λ (n : ℕ). subℕ n 32768) (lifts c) ∙ offset-back (reconstructed c) (step-fits _ _ _ _ _ _);
-  difference-is = off c;
-  small = omega (arith, c .apart .ensures, y-le c, t-le c);
-}
+returns c =
+    let lowered = c .before .from-offset-binary in
+    record {
+      nibble-is = chosen c;
+      sample-is = back w16 (lowered .result) (lowered .ok) ∙ lowered .ensures ∙ sample-nearest c;
+      difference-is = off c;
+      small = omega (arith, c .apart .ensures, y-le c, t-le c);
+    }
 
 pub choose-nibble-spec : {M : Type 1} → statement M
 choose-nibble-spec =

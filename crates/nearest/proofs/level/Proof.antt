@@ -1,10 +1,10 @@
 -- `nearest::level` meets its contract: the subtraction stops at 0, and the number at 65535. Assumes nothing.
-use mathlib.Core.Path.{_≡_, refl, sym, ap, _∙_}
-use Prim.Native.Nat.{ℕ, _+_, _*_, _-_, _≤_, _<_, _^_, min}
+use mathlib.Core.Path.{_≡_, ap, _∙_}
+use Prim.Native.Nat.{ℕ, _*_, _≤_, _^_}
 use borrow.Author.Needs.{needs}
 use native.Mathlib.Nat.{mul-le-mul}
 use native.Mathlib.Omega.{arith}
-use Rattle.nearest.specs.Levels.{originOf, levelAt}
+use Rattle.nearest.specs.Levels.{levelAt}
 use Rattle.nearest.proofs.level.Statement.{statement}
 use Rattle.nearest.proofs.level.Tie as tie
 
@@ -12,12 +12,18 @@ step-size-requires : tie.Need-step-size-requires
 step-size-requires c κs = search needs
 
 module _ (c : tie.After-step-size) where
-  small : c .before .args .r * c .step-size .result ≤ 16 * 32768
+  abbrev r : ℕ
+  r = c .before .args .r
+
+  abbrev predicted : ℕ
+  predicted = c .before .args .predicted
+
+  small : r * c .step-size .result ≤ 16 * 32768
   small = mul-le-mul {n₂ = 16} {m₂ = 32768} (omega arith) (omega arith)
 
   -- with the step's own name
-  named : levelAt (c .step-size .result) (c .before .args .predicted) (c .before .args .r) ≡ levelAt (2 ^ c .before .args .s) (c .before .args .predicted) (c .before .args .r)
-  named = ap (λ (p : ℕ). levelAt p (c .before .args .predicted) (c .before .args .r)) (c .step-size .ensures .0)
+  named : levelAt (c .step-size .result) predicted r ≡ levelAt (2 ^ c .before .args .s) predicted r
+  named = ap (λ (p : ℕ). levelAt p predicted r) (c .step-size .ensures .0)
 
 mul-x : tie.Need-mul-x
 mul-x c = record { fits = omega (arith, small c) }

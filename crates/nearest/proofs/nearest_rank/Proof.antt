@@ -1,13 +1,13 @@
 -- `nearest::nearest_rank` meets its contract: each way gives the first of the nearest. Assumes nothing.
 use mathlib.Core.Path.{_≡_, refl, sym, ap, subst, _∙_}
 use mathlib.Core.Bool.{cond}
-use Prim.Native.Nat.{ℕ, _+_, _*_, _-_, _≤_, _<_, _^_}
+use Prim.Native.Nat.{ℕ, _+_, _-_, _≤_, _<_, _^_}
 use borrow.Author.Needs.{needs}
 use native.Mathlib.Nat.{one-le-pow}
 use native.Mathlib.Omega.{arith}
 use lib.Dec.{eqb}
 use Rattle.nearest.specs.Least.{leastOf, First}
-use Rattle.nearest.specs.Levels.{levelAt, awayAt, reachOf}
+use Rattle.nearest.specs.Levels.{levelAt, awayAt}
 use Rattle.nearest.proofs.Least.{first-least}
 use Rattle.nearest.proofs.Reach.{Reaches, reach-is, under, over, quick-none, quick-under, quick-up}
 use Rattle.nearest.proofs.nearest_rank.Statement.{statement}
@@ -20,6 +20,7 @@ first-reaching-requires c κs = search needs
 least-is : (p predicted t r best : ℕ) → r ≡ best → First (awayAt p predicted t) 15 best → (r ≡ leastOf (awayAt p predicted t) 15) × (r < 16)
 least-is p predicted t r best e f = (e ∙ first-least (awayAt p predicted t) 15 best f, omega (arith, f .within))
 
+-- u is the first rank whose sample, unclamped, reaches t
 module _ (c : tie.After-first-reaching) where
   abbrev p : ℕ
   p = 2 ^ c .before .args .s
@@ -42,8 +43,17 @@ module _ (c : tie.After-first-reaching) where
   small : t ≤ 65535
   small = omega arith
 
+  -- the sample of a rank, and how far it is from t
+  abbrev levelOf : ℕ → ℕ
+  levelOf = levelAt p predicted
+
+  abbrev away : ℕ → ℕ
+  away = awayAt p predicted t
+
 returns : tie.Need-returns
-returns c = let e = c .before in least-is (p e) (predicted e) (t e) _ 0 refl (quick-none (p e) (predicted e) (t e) (some e) (small e) (u e) (up e) (omega arith))
+returns c =
+    let e = c .before in
+    least-is (p e) (predicted e) (t e) _ 0 refl (quick-none (p e) (predicted e) (t e) (some e) (small e) (u e) (up e) (omega arith))
 
 sub-low : tie.Need-sub-low
 sub-low c = search needs
@@ -51,6 +61,7 @@ sub-low c = search needs
 level-requires : tie.Need-level-requires
 level-requires c κs = let w = up (c .before) .within in (omega arith, omega arith, omega arith)
 
+-- the rank before u, and its sample
 module _ (c : tie.After-level) where
   abbrev e : tie.After-first-reaching
   e = c .before .before
@@ -61,16 +72,19 @@ module _ (c : tie.After-level) where
   before : u e ≡ low + 1
   before = omega arith
 
-  least : (u e < 16 → t e - levelAt (p e) (predicted e) low ≤ levelAt (p e) (predicted e) (u e) - t e)
-      → First (awayAt (p e) (predicted e) (t e)) 15 (cond (eqb (levelAt (p e) (predicted e) low) 0) 0 low)
+  y-is : c .level .result ≡ levelOf e low
+  y-is = c .level .ensures .0
+
+  y-le : c .level .result ≤ t e
+  y-le = omega (arith, y-is, under (p e) (predicted e) (t e) (some e) (small e) (u e) (up e) low (omega arith))
+
+  -- where the sample of rank u is not nearer, it is the lowest rank with the sample of the rank before
+  least : (u e < 16 → t e - levelOf e low ≤ levelOf e (u e) - t e) → First (away e) 15 (cond (eqb (levelOf e low) 0) 0 low)
   least = quick-under (p e) (predicted e) (t e) (some e) (small e) (u e) (up e) low before
 
   -- by the sample that the code has
-  same : cond (eqb (c .level .result) 0) 0 low ≡ cond (eqb (levelAt (p e) (predicted e) low) 0) 0 low
-  same = ap (λ (y : ℕ). cond (eqb y 0) 0 low) (c .level .ensures .0)
-
-  y-le : c .level .result ≤ t e
-  y-le = omega (arith, c .level .ensures .0, under (p e) (predicted e) (t e) (some e) (small e) (u e) (up e) low (omega arith))
+  same : cond (eqb (c .level .result) 0) 0 low ≡ cond (eqb (levelOf e low) 0) 0 low
+  same = ap (λ (y : ℕ). cond (eqb y 0) 0 low) y-is
 
 lowest-alike-requires : tie.Need-lowest-alike-requires
 lowest-alike-requires c κs = search needs
@@ -83,22 +97,28 @@ returns-2 c =
 level-requires-2 : tie.Need-level-requires-2
 level-requires-2 c κs = let w = up (c .before .before .before) .within in (omega arith, omega arith, omega arith)
 
+-- rank u, and its sample
 module _ (c : tie.After-level2) where
   abbrev d : tie.After-level
   d = c .before .before
 
-  -- u is originOf 16, since it is not 16
-  more : u (e d) < 16
-  more = let w = up (e d) .within in omega arith
+  abbrev g : tie.After-first-reaching
+  g = e d
 
-  y-is : d .level .result ≡ levelAt (p (e d)) (predicted (e d)) (low d)
-  y-is = d .level .ensures .0
+  -- u is below 16, since it is not 16
+  more : u g < 16
+  more = let w = up g .within in omega arith
 
-  z-is : c .level2 .result ≡ levelAt (p (e d)) (predicted (e d)) (u (e d))
+  z-is : c .level2 .result ≡ levelOf g (u g)
   z-is = c .level2 .ensures .0
 
-  z-le : t (e d) ≤ c .level2 .result
-  z-le = subst (λ (n : ℕ). t (e d) ≤ n) (sym z-is) (over (p (e d)) (predicted (e d)) (t (e d)) (some (e d)) (small (e d)) (u (e d)) (up (e d)) (u (e d)) (omega arith) more)
+  z-le : t g ≤ c .level2 .result
+  z-le = subst (λ (n : ℕ). t g ≤ n) (sym z-is)
+      (over (p g) (predicted g) (t g) (some g) (small g) (u g) (up g) (u g) (omega arith) more)
+
+  -- where its sample is nearer than the one before
+  nearest-up : levelOf g (u g) - t g < t g - levelOf g (low d) → First (away g) 15 (u g)
+  nearest-up = quick-up (p g) (predicted g) (t g) (some g) (small g) (u g) (up g) (low d) (before d) more
 
 sub-if3 : tie.Need-sub-if3
 sub-if3 c = z-le c
@@ -109,9 +129,7 @@ sub-if3-2 c = y-le (c .before .before)
 returns-3 : tie.Need-returns-3
 returns-3 c =
     let b = c .before in
-    let g = d b in
-    let f : levelAt (p (e g)) (predicted (e g)) (u (e g)) - t (e g) < t (e g) - levelAt (p (e g)) (predicted (e g)) (low g) = rw (← z-is b, ← y-is b) (c .if3 .taken) in
-    least-is _ _ _ _ _ refl (quick-up (p (e g)) (predicted (e g)) (t (e g)) (some (e g)) (small (e g)) (u (e g)) (up (e g)) (low g) (before g) (more b) f)
+    least-is _ _ _ _ _ refl (nearest-up b (rw (← z-is b, ← y-is (d b)) (c .if3 .taken)))
 
 lowest-alike-requires-2 : tie.Need-lowest-alike-requires-2
 lowest-alike-requires-2 c κs = search needs
@@ -119,9 +137,9 @@ lowest-alike-requires-2 c κs = search needs
 returns-4 : tie.Need-returns-4
 returns-4 c =
     let b = c .before .before in
-    let g = d b in
-    let f : t (e g) - levelAt (p (e g)) (predicted (e g)) (low g) ≤ levelAt (p (e g)) (predicted (e g)) (u (e g)) - t (e g) = rw (← z-is b, ← y-is b) (c .before .if3 .left) in
-    least-is _ _ _ _ _ (c .lowest-alike2 .ensures ∙ same g) (least g (λ h. f))
+    let f : t (g b) - levelOf (g b) (low (d b)) ≤ levelOf (g b) (u (g b)) - t (g b) =
+    rw (← z-is b, ← y-is (d b)) (c .before .if3 .left) in
+    least-is _ _ _ _ _ (c .lowest-alike2 .ensures ∙ same (d b)) (least (d b) (λ h. f))
 
 pub nearest-rank-spec : {M : Type 1} → statement M
 nearest-rank-spec =
