@@ -1,10 +1,8 @@
 -- Nibbles in their bytes. Assumes nothing.
-use Prim.Native.Nat.{ℕ, zero, suc, _+_, _*_, _-_, _/_, _%_, _≤_, _<_}
-use mathlib.Core.Path.{_≡_, refl, sym, ap, _∙_}
-use mathlib.Core.Bool.{Bool, true, false, cond}
-use mathlib.Core.List.{List, [], _∷_, _++_}
+use Prim.Native.Nat.{ℕ, zero, suc, _+_, _*_, _/_, _%_, _<_}
+use mathlib.Core.Path.{_≡_, _∙_}
+use mathlib.Core.List.{List, [], _∷_}
 use native.Mathlib.Omega.{arith}
-use borrow.Author.Tests.{eq-eqb, ne-eqb}
 use lib.Dec.{eqb}
 use lib.IntN.{ℤ}
 use lib.ListN.{length, getD}
@@ -13,16 +11,18 @@ use Rattle.nearest.proofs.Nearest.{nearest-below}
 use Rattle.trial.specs.Trial.{nibblesOf}
 use Rattle.encoder.specs.Encode.{packed}
 
+-- two nibbles to a byte, rounded up
 pub length-packed : (vs : List ℕ) → length (packed vs) ≡ (length vs + 1) / 2
 unfolding packed
 length-packed [] = omega arith
 length-packed (v ∷ []) = omega arith
 length-packed (v ∷ (w ∷ vs)) = omega (arith, length-packed vs)
 
--- each below 16
+-- a list of nibbles: each is below 16
 abbrev pub Nibbles : List ℕ → Type 0
 Nibbles vs = (i : ℕ) → getD vs i 0 < 16
 
+-- what is chosen for samples is such a list
 pub nibbles-all : (s : ℕ) (c d : ℤ) (ts : List ℤ) (h0 h1 : ℤ) → Nibbles (nibblesOf s c d ts h0 h1)
 unfolding nibblesOf
 nibbles-all s c d [] h0 h1 i = omega arith

@@ -33,8 +33,13 @@ encodeRefused n out = record { number = n; size = 0; context = none; error = 0; 
 
 -- the encoding at the front of the output, whose rest stays
 abbrev pub encodeWrote : Encoded → List ℕ → EncodeOutcome
-encodeWrote e out =
-    record { number = 0; size = length (e .bytes); context = e .context; error = saturated (e .error); output = e .bytes ++ drop (length (e .bytes)) out }
+encodeWrote e out = record {
+  number = 0;
+  size = length (e .bytes);
+  context = e .context;
+  error = saturated (e .error);
+  output = e .bytes ++ drop (length (e .bytes)) out;
+}
 
 unfoldable pub encodeCall : List ℤ → List ℤ → AdpcmContext → List ℕ → EncodeOutcome
 unfolding sizeOf

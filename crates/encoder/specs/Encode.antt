@@ -1,4 +1,5 @@
--- Samples encoded frame by frame: bytes, what they decode to, the sum of squared differences, and the context that is left. Definitions only.
+-- Samples encoded frame by frame: bytes, what they decode to, the sum of squared differences, and the context that is left.
+-- Definitions only.
 use Prim.Native.Nat.{ℕ, zero, suc, _+_, _*_, _-_, _/_, _%_, _^_, min}
 use mathlib.Core.List.{List, [], _∷_, _++_}
 use lib.IntN.{ℤ}

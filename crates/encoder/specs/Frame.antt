@@ -10,8 +10,8 @@ use Rattle.trial.specs.Trial.{nibblesOf, reconstructedOf}
 use Rattle.encoder.specs.Encode.{packed, contextAfter, frameOf}
 
 -- the bytes of a frame of n samples, 1 to 14: a header, and two nibbles to a byte
-abbrev pub frameBytes : ℕ → ℕ
-frameBytes n = 1 + (n + 1) / 2
+abbrev pub frameSize : ℕ → ℕ
+frameSize n = 1 + (n + 1) / 2
 
 module _ (s : ℕ) (c d : ℤ) where
   -- the bytes for the samples ts, and the context after them with the header b

@@ -78,7 +78,8 @@ pub fn encode_adpcm(
     ctx: AdpcmContext,
     out: &mut [u8],
 ) -> EncodeAnswer
-    ensures { λ r. ⌜ encodeSeen r (now (out .exit)) ≡ encodeCall (now (samples .entry)) (now (coefficients .entry)) ctx (now (out .entry)) ⌝ }
+    ensures { λ r. ⌜ encodeSeen r (now (out .exit))
+        ≡ encodeCall (now (samples .entry)) (now (coefficients .entry)) ctx (now (out .entry)) ⌝ }
 {
     let size = adpcm_size(Sample(samples.len() as u64)).0 as usize;
     if out.len() < size {

@@ -3,7 +3,7 @@ ghost use mathlib.Core.Path.{_≡_};
 ghost use Prim.Native.Nat.{_+_, _*_, _/_, _≤_, _<_};
 ghost use lib.ListN.{length, drop};
 ghost use Rattle.trial.specs.Trial.{frameSamples};
-ghost use Rattle.encoder.specs.Frame.{frameBytes, Packs, Puts, Frames};
+ghost use Rattle.encoder.specs.Frame.{frameSize, Packs, Puts, Frames};
 use adpcm::AdpcmContext;
 use nearest::choose_nibble;
 use trial::keep_header;
@@ -81,7 +81,7 @@ pub fn encode_frame(
     ctx: AdpcmContext,
     out: &mut [u8],
 ) -> Encoding
-    requires { ⌜ (length (now samples) ≤ frameSamples) × (length (now out) ≡ frameBytes (length (now samples))) ⌝ }
+    requires { ⌜ (length (now samples) ≤ frameSamples) × (length (now out) ≡ frameSize (length (now samples))) ⌝ }
     ensures { λ r. ⌜ Frames (now (coefficients .entry)) (now (samples .entry)) ctx (now (out .exit)) (r .context) (r .error) ⌝ }
 {
     let h0 = ctx.history0;

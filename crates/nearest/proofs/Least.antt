@@ -10,6 +10,7 @@ use lib.Dec.{ltb}
 use Rattle.nearest.specs.Least.{better, leastOf, First}
 
 module _ (f : ℕ → ℕ) where
+  -- of place 0 alone
   pub first-none : First f 0 0
   first-none = record { within = omega arith; least = none; first = λ k h. absurd (omega arith) }
     where
@@ -45,6 +46,7 @@ module _ (f : ℕ → ℕ) where
   unfolding better
   first-more n best p = by-case n best p (ltb (f (suc n)) (f best)) refl
 
+  -- `leastOf` is such a place
   pub least-first : (n : ℕ) → First f n (leastOf f n)
   unfolding leastOf
   least-first zero = first-none

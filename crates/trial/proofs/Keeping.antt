@@ -1,7 +1,7 @@
 -- The loop over the 128 headers: no header so far has a sum below the limit, and where the limit has fallen below the first one, the header
 -- kept is the first with that sum. Assumes nothing.
-use Prim.Native.Nat.{ℕ, zero, suc, _+_, _≤_, _<_, min}
-use mathlib.Core.Path.{_≡_, refl, sym, ap, _∙_}
+use Prim.Native.Nat.{ℕ, suc, _+_, _≤_, _<_, min}
+use mathlib.Core.Path.{_≡_, refl, ap, _∙_}
 use mathlib.Core.Bool.{Bool, true, false, cond}
 use mathlib.Core.List.{List}
 use mathlib.Core.Logic.{⊎-elim}
@@ -31,6 +31,7 @@ module _ (f : ℕ → ℕ) where
     pub least : (k : ℕ) → k < b → kept .error ≤ f k
     pub found : kept .error < limit → FirstBelow b (kept .header) (kept .error)
 
+  -- before the first header
   pub keep-begin : (kept : Kept) → Keeping (kept .error) kept 0
   keep-begin kept = record {
     few = omega arith;
@@ -42,7 +43,13 @@ module _ (f : ℕ → ℕ) where
   module _ (limit : ℕ) (kept : Kept) (b e : ℕ) (p : Keeping limit kept b) (is : e ≡ min (kept .error) (f b)) where
     -- a fact of the header b and of those below it
     each : {n : ℕ} → n ≤ f b → n ≤ kept .error → (k : ℕ) → k < suc b → n ≤ f k
-    each l m k h = ⊎-elim (λ (q : suc k ≡ suc b). (let r : b ≡ k = omega arith in rw (← r) l)) (λ (q : suc k < suc b). omega (arith, p .least k (omega arith))) (eq-or-lt-of-le h)
+    each {n} l m k h = ⊎-elim own below (eq-or-lt-of-le h)
+      where
+        own : suc k ≡ suc b → n ≤ f k
+        own q = let r : b ≡ k = omega arith in rw (← r) l
+
+        below : suc k < suc b → n ≤ f k
+        below q = omega (arith, p .least k (omega arith))
 
     by-case : b < 128 → (t : Bool) → ltb e (kept .error) ≡ t
         → Keeping limit (record { header = cond t b (kept .header); error = cond t e (kept .error) }) (suc b)
@@ -64,6 +71,7 @@ module _ (f : ℕ → ℕ) where
           found = λ h. (let g = p .found h in record { within = omega (arith, g .within); sum = g .sum; first = g .first });
         }
 
+    -- after the header b, whose sum is taken up to the sum of the one kept
     pub keep-more : (new : Kept) → b < 128 → new ≡ betterOf kept b e → Keeping limit new (b + 1)
     keep-more new more n = rw (n, add-one) (by-case more (ltb e (kept .error)) refl)
 

@@ -1,11 +1,11 @@
 -- None of the 128 headers has a smaller sum than the one kept, and those with a lower byte have larger ones. Assumes nothing.
-use Prim.Native.Nat.{ℕ, zero, suc, _+_, _≤_, _<_}
+use Prim.Native.Nat.{ℕ, suc, _≤_, _<_}
 use mathlib.Core.List.{List, [], _∷_}
 use mathlib.Core.Path.{_≡_, refl, ap}
 use native.Mathlib.Omega.{arith}
 use lib.IntN.{ℤ}
 use lib.ListN.{length}
-use Rattle.nearest.specs.Least.{leastOf, First}
+use Rattle.nearest.specs.Least.{First}
 use Rattle.nearest.proofs.Least.{least-first}
 use Rattle.trial.specs.Trial.{nibblesOf, reconstructedOf, errorOf, keptOf}
 

@@ -1,5 +1,5 @@
--- One frame tried with one header: the nibbles in turn, what they decode to, and the sum of squared differences; and the header that is kept.
--- Definitions only.
+-- One frame tried with one header: the nibbles in turn, what they decode to, and the sum of squared differences; and the header that is
+-- kept. Definitions only.
 use Prim.Native.Nat.{ℕ, zero, suc, _+_, _*_, _/_, _%_}
 use mathlib.Core.List.{List, [], _∷_}
 use lib.IntN.{ℤ, pos}

@@ -73,8 +73,8 @@ fn better(kept: Kept, b: u8, error: u64) -> Kept
     kept
 }
 
-// The header that is kept for a frame of up to 14 samples, after the samples h0 and h1, and its sum. The sum of the header `seed`, whichever
-// it is, is taken first, so that the others are given up sooner.
+// The header that is kept for a frame of up to 14 samples, after the samples h0 and h1, and its sum. The sum of the header `seed`,
+// whichever it is, is taken first, so that the others are given up sooner.
 pub fn keep_header(samples: &[i16], coefficients: &[i16; 16], h0: i16, h1: i16, seed: u8) -> Kept
     requires { ⌜ (length (now samples) ≤ frameSamples) × (seed < 128) ⌝ }
     ensures { λ r. ⌜ Keeps (now (coefficients .entry)) (now (samples .entry)) h0 h1 (r .header) (r .error) ⌝ }

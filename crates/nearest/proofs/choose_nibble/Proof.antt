@@ -1,19 +1,18 @@
 -- `nearest::choose_nibble` meets its contract: what is worked out in offset binary is what the definition says. Assumes nothing.
-use mathlib.Core.Path.{_≡_, refl, sym, ap, _∙_}
-use Prim.Native.Nat.{ℕ, _+_, _%_, _≤_, _<_, _^_}
+use mathlib.Core.Path.{_≡_, ap, _∙_}
+use Prim.Native.Nat.{ℕ, _≤_, _<_, _^_}
 use borrow.Author.Needs.{needs}
 use native.Mathlib.Omega.{arith}
 use lib.IntN.{ℤ, subℕ, _*ℤ_}
 use lib.Signed.{mag}
 use mir.Syntax.{w16}
-use mir.Val.{SFits}
 use mir.Facts.{toZ-ofZ}
 use Rattle.adpcm.specs.Step.{stepOf, step-fits}
 use Rattle.nearest.specs.Least.{leastOf}
-use Rattle.nearest.specs.Nearest.{differenceOf, nibbleAt, nearestOf, Chosen}
+use Rattle.nearest.specs.Nearest.{differenceOf, nibbleAt, nearestOf}
 use Rattle.adpcm.proofs.Ints.{mul16, back}
 use Rattle.nearest.specs.Levels.{offsetBinary, apartOf, predictionOf, levelAt, awayAt}
-use Rattle.nearest.proofs.Offsets.{offset-le, offset-back}
+use Rattle.nearest.proofs.Offsets.{offset-back}
 use Rattle.nearest.proofs.Ranks.{nibble-is, sample-is, difference-is}
 use Rattle.nearest.proofs.choose_nibble.Statement.{statement}
 use Rattle.nearest.proofs.choose_nibble.Tie as tie

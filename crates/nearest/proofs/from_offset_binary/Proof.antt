@@ -1,12 +1,9 @@
 -- `nearest::from_offset_binary` meets its contract. Assumes nothing.
-use mathlib.Core.Path.{_≡_, refl, ap, _∙_}
-use Prim.Native.Nat.{_≤_}
 use borrow.Author.Needs.{needs}
 use native.Mathlib.Omega.{arith}
-use lib.IntN.{ℤ, pos, negsuc, subℕ, _+ℤ_}
-use lib.Signed.{mag}
+use lib.IntN.{subℕ}
 use mir.Syntax.{w16, w32}
-use mir.Val.{SFits, toZ, ofZ}
+use mir.Val.{SFits}
 use mir.Facts.{sfits-widen, toZ-pos, toZ-ofZ}
 use Rattle.nearest.proofs.Differences.{offset-fits}
 use Rattle.nearest.proofs.from_offset_binary.Statement.{statement}

@@ -1,10 +1,10 @@
 -- `nearest::level` meets its contract: the subtraction stops at 0, and the number at 65535. Assumes nothing.
-use mathlib.Core.Path.{_≡_, refl, sym, ap, _∙_}
-use Prim.Native.Nat.{ℕ, _+_, _*_, _-_, _≤_, _<_, _^_, min}
+use mathlib.Core.Path.{_≡_, ap, _∙_}
+use Prim.Native.Nat.{ℕ, _*_, _≤_, _^_}
 use borrow.Author.Needs.{needs}
 use native.Mathlib.Nat.{mul-le-mul}
 use native.Mathlib.Omega.{arith}
-use Rattle.nearest.specs.Levels.{originOf, levelAt}
+use Rattle.nearest.specs.Levels.{levelAt}
 use Rattle.nearest.proofs.level.Statement.{statement}
 use Rattle.nearest.proofs.level.Tie as tie
 

@@ -1,13 +1,13 @@
 -- `nearest::nearest_rank` meets its contract: each way gives the first of the nearest. Assumes nothing.
 use mathlib.Core.Path.{_≡_, refl, sym, ap, subst, _∙_}
 use mathlib.Core.Bool.{cond}
-use Prim.Native.Nat.{ℕ, _+_, _*_, _-_, _≤_, _<_, _^_}
+use Prim.Native.Nat.{ℕ, _+_, _-_, _≤_, _<_, _^_}
 use borrow.Author.Needs.{needs}
 use native.Mathlib.Nat.{one-le-pow}
 use native.Mathlib.Omega.{arith}
 use lib.Dec.{eqb}
 use Rattle.nearest.specs.Least.{leastOf, First}
-use Rattle.nearest.specs.Levels.{levelAt, awayAt, reachOf, NearestRank}
+use Rattle.nearest.specs.Levels.{levelAt, awayAt, NearestRank}
 use Rattle.nearest.proofs.Least.{first-least}
 use Rattle.nearest.proofs.Reach.{Reaches, reach-is, under, over, quick-none, quick-under, quick-alike, quick-up}
 use Rattle.nearest.proofs.nearest_rank.Statement.{statement}

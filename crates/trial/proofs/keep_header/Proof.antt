@@ -1,6 +1,5 @@
 -- `trial::keep_header` meets its contract: no header so far has a sum below the limit. Assumes nothing.
-use mathlib.Core.Path.{_≡_, refl, sym, subst, _∙_}
-use Prim.Native.Nat.{ℕ, _+_, _*_, _-_, _≤_, _<_, min}
+use Prim.Native.Nat.{ℕ, _+_, _-_, _<_}
 use borrow.Author.Needs.{needs}
 use native.Mathlib.Omega.{arith}
 use mir.Syntax.{w16}
@@ -10,13 +9,10 @@ use Rattle.trial.specs.Trial.{errorOf}
 use Rattle.trial.proofs.Keeping.{Keeping, keeps-by, keep-begin, keep-more, keep-end}
 use Rattle.trial.proofs.keep_header.Statement.{statement}
 use Rattle.trial.proofs.keep_header.Tie as tie
-use Rattle.trial.proofs.keep_header.Reads as reads
-use Rattle.trial.proofs.keep_header.Lts as lts
-use Rattle.trial.proofs.better.Reads as better-reads
-use Rattle.trial.proofs.try_header.Reads as try-header-reads
 
 abbrev Inv-loop : tie.InvT-loop
-Inv-loop samples coefficients h0 h1 seed known above kept₀ b₀ kept b = Keeping (errorOf coefficients samples (toZ w16 h0) (toZ w16 h1)) above kept b
+Inv-loop samples coefficients h0 h1 seed known above kept₀ b₀ kept b =
+    Keeping (errorOf coefficients samples (toZ w16 h0) (toZ w16 h1)) above kept b
 
 abbrev μ-loop : tie.MeasureT-loop
 μ-loop samples coefficients h0 h1 seed known above kept₀ b₀ kept b = 128 - b
@@ -44,19 +40,27 @@ loop-less c = search needs
 
 loop-again : tie.Need-loop-again Inv-loop μ-loop
 loop-again c =
-    let l = c .before .before .before in
-    keep-more _ _ (l .loop .kept) (l .loop .b) _ (l .loop .inv) (c .before .try-header2 .ensures .0) _ (c .before .before .loop-test .taken) (c .better .ensures)
+    let l = c .before .before .before .loop in
+    let more : l .b < 128 = omega (arith, c .before .before .loop-test .taken) in
+    keep-more _ _ (l .kept) (l .b) _ (l .inv) (c .before .try-header2 .ensures .0) _ more (c .better .ensures)
+
+-- the seed's sum is below the first limit: no frame's sum reaches the limit that it was tried with
+module _ (c : tie.After-try-header Inv-loop μ-loop) where
+  abbrev a : tie.Start Inv-loop μ-loop
+  a = c .before
+
+  abbrev sumWith : ℕ → ℕ
+  sumWith = errorOf (a .args .coefficients .now) (a .args .samples .now) (toZ w16 (ofZ w16 (a .args .h0))) (toZ w16 (ofZ w16 (a .args .h1)))
+
+  seed-below : sumWith (a .args .seed) < c .try-header .result + 1
+  seed-below = omega (arith, c .try-header .ensures .0, c .try-header .ensures .1)
 
 returns : tie.Need-returns Inv-loop μ-loop
 returns c =
     let k = c .before .before in
-    let a = k .before in
-    let s = a .args .seed in
-    let e : errorOf (a .args .coefficients .now) (a .args .samples .now) (toZ w16 (ofZ w16 (a .args .h0))) (toZ w16 (ofZ w16 (a .args .h1))) s
-    < k .try-header .result + 1 =
-    omega (arith, k .try-header .ensures .0, k .try-header .ensures .1) in
-    keeps-by (toZ-ofZ (a .fits .h0)) (toZ-ofZ (a .fits .h1))
-    (keep-end _ _ _ _ s _ (c .before .loop .kept) (c .before .loop .b) (omega arith) e (c .loop-test .left) (c .before .loop .inv))
+    let l = c .before .loop in
+    keeps-by (toZ-ofZ (a k .fits .h0)) (toZ-ofZ (a k .fits .h1))
+    (keep-end _ _ _ _ (a k .args .seed) _ (l .kept) (l .b) (omega arith) (seed-below k) (c .loop-test .left) (l .inv))
 
 pub keep-header-spec : {M : Type 1} → statement M
 keep-header-spec =

@@ -1,9 +1,8 @@
 -- `trial::try_header` meets its contract. Assumes nothing.
-use mathlib.Core.Path.{_≡_, _∙_}
+use mathlib.Core.Path.{_≡_, ap, _∙_}
 use mathlib.Core.List.{List}
-use Prim.Native.Nat.{ℕ, _+_, _*_, _/_, _%_, _≤_, _<_, _^_, min}
+use Prim.Native.Nat.{ℕ, _%_, min}
 use borrow.Author.Needs.{needs}
-use native.Mathlib.Omega.{arith}
 use lib.IntN.{ℤ}
 use mir.Syntax.{w16}
 use mir.Val.{toZ, ofZ}
@@ -12,9 +11,6 @@ use Rattle.adpcm.proofs.Ints.{back}
 use Rattle.trial.specs.Trial.{pairFirst, pairSecond, sumOf, errorOf}
 use Rattle.trial.proofs.try_header.Statement.{statement}
 use Rattle.trial.proofs.try_header.Tie as tie
-use Rattle.trial.proofs.try_header.Reads as reads
-use Rattle.trial.proofs.try_header.Lts as lts
-use Rattle.trial.proofs.try_pair.Reads as try-pair-reads
 
 mul-p : tie.Need-mul-p
 mul-p c = search needs
@@ -53,21 +49,24 @@ module _ (c : tie.After-try-pair) where
   abbrev b : ℕ
   b = a .args .b
 
+  -- the pair and the histories as they are passed, and as the contract has them
   first-is : toZ w16 (ofZ w16 (pairFirst k b)) ≡ pairFirst k b
   first-is = back w16 (pairFirst k b) (c .before .before .c .given)
 
   second-is : toZ w16 (ofZ w16 (pairSecond k b)) ≡ pairSecond k b
   second-is = back w16 (pairSecond k b) (c .before .d .given)
 
+  abbrev ts : List ℤ
+  ts = a .args .samples .now
+
+  sum-is : sumOf (b % 16) (toZ w16 (ofZ w16 (pairFirst k b))) (toZ w16 (ofZ w16 (pairSecond k b))) ts
+      (toZ w16 (ofZ w16 (a .args .h0))) (toZ w16 (ofZ w16 (a .args .h1)))
+      ≡ errorOf k ts (a .args .h0) (a .args .h1) b
+  unfolding errorOf
+  sum-is = λ i. sumOf (b % 16) (first-is i) (second-is i) ts (toZ-ofZ (a .fits .h0) i) (toZ-ofZ (a .fits .h1) i)
+
 returns : tie.Need-returns
-unfolding errorOf
-returns c =
-    let a = c .before .before .before in (
-      c .try-pair .ensures .0
-          ∙ (λ i. min (a .args .limit)
-          (sumOf (a .args .b % 16) (first-is c i) (second-is c i) (a .args .samples .now) (toZ-ofZ (a .fits .h0) i) (toZ-ofZ (a .fits .h1) i))),
-      c .try-pair .ensures .1,
-    )
+returns c = (c .try-pair .ensures .0 ∙ ap (min (a c .args .limit)) (sum-is c), c .try-pair .ensures .1)
 
 pub try-header-spec : {M : Type 1} → statement M
 try-header-spec =

@@ -1,22 +1,19 @@
 -- `trial::try_pair` meets its contract: what is left to add is the sum from here on. Assumes nothing.
-use mathlib.Core.Path.{_≡_, sym, subst, _∙_}
-use Prim.Native.Nat.{ℕ, _+_, _*_, _-_, _≤_, _<_, min}
+use mathlib.Core.Path.{_≡_, _∙_}
+use mathlib.Core.List.{List}
+use Prim.Native.Nat.{ℕ, _-_, min}
 use borrow.Author.Needs.{needs}
 use native.Mathlib.Omega.{arith}
 use lib.IntN.{ℤ}
 use lib.ListN.{length}
 use mir.Syntax.{w16}
-use mir.Val.{SFits, toZ, ofZ}
+use mir.Val.{toZ, ofZ}
 use mir.Facts.{toZ-ofZ}
 use Rattle.nearest.proofs.Nearest.{chosen-fits}
 use Rattle.trial.specs.Trial.{sumOf}
-use Rattle.trial.proofs.Trying.{Trying, try-begin, try-cut, try-more, try-end}
+use Rattle.trial.proofs.Trying.{Trying, fits-again, try-begin, try-cut, try-more, try-end}
 use Rattle.trial.proofs.try_pair.Statement.{statement}
 use Rattle.trial.proofs.try_pair.Tie as tie
-use Rattle.trial.proofs.try_pair.Reads as reads
-use Rattle.trial.proofs.try_pair.Lts as lts
-use Rattle.nearest.proofs.choose_nibble.Reads as choose-nibble-reads
-use Rattle.trial.proofs.square.Reads as square-reads
 
 abbrev Inv-loop : tie.InvT-loop
 Inv-loop samples s c d h0 h1 limit a₀ b₀ sum₀ i₀ a b sum i =
@@ -25,21 +22,25 @@ Inv-loop samples s c d h0 h1 limit a₀ b₀ sum₀ i₀ a b sum i =
 abbrev μ-loop : tie.MeasureT-loop
 μ-loop samples s c d h0 h1 limit a₀ b₀ sum₀ i₀ a b sum i = length samples - i
 
-again : {z : ℤ} → SFits w16 z → SFits w16 (toZ w16 (ofZ w16 z))
-again f = subst (SFits w16) (sym (toZ-ofZ f)) f
-
 loop-holds : tie.Need-loop-holds Inv-loop μ-loop
-loop-holds c = try-begin _ _ _ _ _ _ (again (c .fits .h0)) (again (c .fits .h1))
+loop-holds c = try-begin _ _ _ _ _ _ (fits-again (c .fits .h0)) (fits-again (c .fits .h1))
 
 module _ (c : tie.Start Inv-loop μ-loop) where
+  abbrev s : ℕ
+  s = c .args .s
+
+  abbrev ts : List ℤ
+  ts = c .args .samples .now
+
   abbrev total : ℕ
-  total = sumOf (c .args .s) (c .args .c) (c .args .d) (c .args .samples .now) (c .args .h0) (c .args .h1)
+  total = sumOf s (c .args .c) (c .args .d) ts (c .args .h0) (c .args .h1)
 
   -- the arguments as the loop has them, and as the contract has them
-  named : sumOf (c .args .s) (toZ w16 (ofZ w16 (c .args .c))) (toZ w16 (ofZ w16 (c .args .d))) (c .args .samples .now)
-      (toZ w16 (ofZ w16 (c .args .h0))) (toZ w16 (ofZ w16 (c .args .h1))) ≡ total
-  named = λ i.
-      sumOf (c .args .s) (toZ-ofZ (c .fits .c) i) (toZ-ofZ (c .fits .d) i) (c .args .samples .now) (toZ-ofZ (c .fits .h0) i) (toZ-ofZ (c .fits .h1) i)
+  named : sumOf s (toZ w16 (ofZ w16 (c .args .c))) (toZ w16 (ofZ w16 (c .args .d))) ts
+      (toZ w16 (ofZ w16 (c .args .h0))) (toZ w16 (ofZ w16 (c .args .h1)))
+      ≡ total
+  named =
+      let f = c .fits in λ i. sumOf s (toZ-ofZ (f .c) i) (toZ-ofZ (f .d) i) ts (toZ-ofZ (f .h0) i) (toZ-ofZ (f .h1) i)
 
   least : (sum : ℕ) {whole : ℕ} → sum ≡ min (c .args .limit) whole → whole ≡ total → sum ≡ min (c .args .limit) total
   least sum e n = e ∙ (λ i. min (c .args .limit) (n i))
@@ -80,7 +81,8 @@ loop-again c =
     let n = c .before .before in
     let l = n .before .before .before in
     let k = n .choose-nibble .ensures in
-    try-more _ _ _ _ _ _ _ _ _ _ (l .before .loop .inv) (l .loop-test .taken) _ (toZ-ofZ (record { sfits = n .before .choose-nibble-arg .given }))
+    let sample = toZ-ofZ (record { sfits = n .before .choose-nibble-arg .given }) in
+    try-more _ _ _ _ _ _ _ _ _ _ (l .before .loop .inv) (l .loop-test .taken) _ sample
     _ _ _ k _ (q .ensures .0) _ (toZ-ofZ (chosen-fits k)) (q .ensures .1)
 
 returns-2 : tie.Need-returns-2 Inv-loop μ-loop

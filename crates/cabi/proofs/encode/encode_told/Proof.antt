@@ -13,7 +13,9 @@ returns c =
     let g = c .before .before .a .given in
     let e = g .0 .1 .0 in
     let x = e .context in
-    (λ i. encodedAs 0 (g .0 .0) (x .«pred_scale») (back w16 (x .history0) (omega arith) i) (back w16 (x .history1) (omega arith) i) (e .error))
+    let last = back w16 (x .history0) (omega arith) in
+    let before = back w16 (x .history1) (omega arith) in
+    (λ i. encodedAs 0 (g .0 .0) (x .«pred_scale») (last i) (before i) (e .error))
     ∙ ap encodeTold (sym (g .1))
 
 returns-2 : tie.Need-returns-2

@@ -8,7 +8,8 @@ returns : tie.Need-returns
 returns c =
     let e = c .before .before .before in
     let x = e .before .before in
-    rw (c .encode-told .ensures, encode-seen, ← (x .context-in .ensures), ← (x .before .before .sixteen .ensures)) (e .encode-adpcm .ensures)
+    let pairs = x .before .before .sixteen .ensures in
+    rw (c .encode-told .ensures, encode-seen, ← (x .context-in .ensures), ← pairs) (e .encode-adpcm .ensures)
 
 pub jeqlluna-encode-adpcm-spec : {M : Type 1} → statement M
 jeqlluna-encode-adpcm-spec =

@@ -1,21 +1,11 @@
 -- `encoder::encode::encode_adpcm` meets its contract: question 15, then the encoding. Assumes nothing.
-use mathlib.Core.Path.{_≡_, refl, sym, ap, subst, _∙_}
-use Prim.Native.Nat.{ℕ, _+_, _-_, _/_, _≤_, _<_, min}
+use mathlib.Core.Path.{sym, _∙_}
 use borrow.Author.Needs.{needs}
-use borrow.Author.Tests.{le-leb, lt-leb}
 use native.Mathlib.Omega.{arith}
-use mathlib.Core.List.{List, _++_}
-use lib.ListN.{length, take, drop}
 use lib.Seq.{length-take-le}
-use Rattle.adpcm.specs.Places.{sizeOf}
-use Rattle.encoder.specs.Answer.{Encodes}
 use Rattle.encoder.proofs.Answer.{outcome-short, outcome-done}
 use Rattle.encoder.proofs.encode.encode_adpcm.Statement.{statement}
 use Rattle.encoder.proofs.encode.encode_adpcm.Tie as tie
-use Rattle.encoder.proofs.encode.encode_adpcm.Reads as reads
-use Rattle.encoder.proofs.encode.encode_adpcm.Lts as lts
-use Rattle.adpcm.proofs.adpcm_size.Reads as adpcm-size-reads
-use Rattle.encoder.proofs.encode.encode_frames.Reads as encode-frames-reads
 
 adpcm-size-requires : tie.Need-adpcm-size-requires
 adpcm-size-requires c κs = search needs
@@ -36,7 +26,9 @@ same-length : tie.Need-same-length
 same-length c = search needs
 
 returns-2 : tie.Need-returns-2
-returns-2 c = let f = c .before .before .before .before in outcome-done _ _ _ _ _ _ _ _ (f .before .adpcm-size .ensures) (f .if1 .left) (c .before .before .encode-frames .ensures)
+returns-2 c =
+    let f = c .before .before .before .before in
+    outcome-done _ _ _ _ _ _ _ _ (f .before .adpcm-size .ensures) (f .if1 .left) (c .before .before .encode-frames .ensures)
 
 pub encode-adpcm-spec : {M : Type 1} → statement M
 encode-adpcm-spec =

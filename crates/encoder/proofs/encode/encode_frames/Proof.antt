@@ -1,17 +1,12 @@
 -- `encoder::encode::encode_frames` meets its contract: what is written and what is left are the whole. Assumes nothing.
-use mathlib.Core.Path.{_≡_, refl, sym, ap, subst, _∙_}
-use Prim.Native.Nat.{ℕ, _+_, _-_, _/_, _≤_, _<_, min}
+use Prim.Native.Nat.{_+_, _-_, _≤_}
 use borrow.Author.Needs.{needs}
 use native.Mathlib.Omega.{arith}
-use lib.ListN.{length, take, drop}
+use lib.ListN.{length}
+use Rattle.encoder.specs.Frame.{frameSize}
 use Rattle.encoder.proofs.Going.{Going, go-begin, go-room, go-more, go-end}
 use Rattle.encoder.proofs.encode.encode_frames.Statement.{statement}
 use Rattle.encoder.proofs.encode.encode_frames.Tie as tie
-use Rattle.encoder.proofs.encode.encode_frames.Reads as reads
-use Rattle.encoder.proofs.encode.encode_frames.Lts as lts
-use Rattle.encoder.proofs.encode.saturating_add.Reads as saturating-add-reads
-use Rattle.encoder.proofs.encode.samples_in_frame.Reads as samples-in-frame-reads
-use Rattle.encoder.proofs.frame.encode_frame.Reads as encode-frame-reads
 
 abbrev Inv-loop : tie.InvT-loop
 Inv-loop samples coefficients out₀ x₀ error₀ at₀ put₀ out x error at put = Going coefficients samples x₀ out₀ out x error at put
@@ -37,8 +32,9 @@ add-w-2 c = search needs
 add-end : tie.Need-add-end Inv-loop μ-loop
 add-end c = search needs
 
+-- the frame's bytes have room
 module _ (c : tie.After-samples-in-frame Inv-loop μ-loop) where
-  room : c .before .before .loop .put + (1 + (c .samples-in-frame .result + 1) / 2) ≤ length (c .before .before .loop .out)
+  room : c .before .before .loop .put + frameSize (c .samples-in-frame .result) ≤ length (c .before .before .loop .out)
   room = go-room _ _ _ _ _ _ _ _ _ (c .before .before .loop .inv) (c .before .loop-test .taken) _ (c .samples-in-frame .ensures)
 
 add-next : tie.Need-add-next Inv-loop μ-loop
@@ -78,7 +74,8 @@ loop-again : tie.Need-loop-again Inv-loop μ-loop
 loop-again c =
     let f = c .before .before .before .before in
     let n = f .before .before .before in
-    go-more _ _ _ _ _ _ _ _ _ (n .before .before .loop .inv) (n .before .loop-test .taken) _ (n .samples-in-frame .ensures) _ _ _ (f .encode-frame .ensures) _ (c .saturating-add .ensures)
+    go-more _ _ _ _ _ _ _ _ _ (n .before .before .loop .inv) (n .before .loop-test .taken) _ (n .samples-in-frame .ensures)
+    _ _ _ (f .encode-frame .ensures) _ (c .saturating-add .ensures)
 
 same-length : tie.Need-same-length Inv-loop μ-loop
 same-length c = c .before .loop .inv .size

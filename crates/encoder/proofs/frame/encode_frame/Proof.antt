@@ -1,24 +1,18 @@
 -- `encoder::frame::encode_frame` meets its contract: the header that is kept, and the nibbles put behind it. Assumes nothing.
 use borrow.Author.Needs.{needs}
-use mathlib.Core.Path.{_≡_, refl, sym, ap, subst, _∙_}
-use Prim.Native.Nat.{ℕ, _+_, _*_, _-_, _/_, _≤_, _<_, _^_}
+use mathlib.Core.Path.{_≡_}
+use Prim.Native.Nat.{ℕ}
 use native.Mathlib.Omega.{arith}
 use mathlib.Core.List.{List}
 use lib.IntN.{ℤ}
 use mir.Syntax.{w16}
-use mir.Val.{SFits, toZ, ofZ}
-use mir.Facts.{toZ-ofZ}
+use mir.Val.{toZ, ofZ}
 use Rattle.adpcm.proofs.Ints.{back}
 use Rattle.trial.proofs.Keeping.{keeps-by}
 use Rattle.trial.specs.Trial.{pairFirst, pairSecond}
-use Rattle.encoder.specs.Frame.{Puts, Frames}
 use Rattle.encoder.proofs.WholeFrame.{header-put, frames-are, puts-by}
 use Rattle.encoder.proofs.frame.encode_frame.Statement.{statement}
 use Rattle.encoder.proofs.frame.encode_frame.Tie as tie
-use Rattle.encoder.proofs.frame.encode_frame.Reads as reads
-use Rattle.encoder.proofs.frame.encode_frame.Lts as lts
-use Rattle.encoder.proofs.frame.put_nibbles.Reads as put-nibbles-reads
-use Rattle.trial.proofs.keep_header.Reads as keep-header-reads
 
 cast-seed : tie.Need-cast-seed
 cast-seed c = search needs
@@ -84,6 +78,7 @@ module _ (c : tie.After-put-nibbles) where
   abbrev b : ℕ
   b = chosen .keep-header .result .header
 
+  -- the context's samples and the pair as they are passed, and as the contract has them
   zero-is : toZ w16 (ofZ w16 (a .args .ctx .history0)) ≡ a .args .ctx .history0
   zero-is = back w16 (a .args .ctx .history0) (chosen .before .before .before .struct-told .given .1 .0 .1)
 
@@ -100,8 +95,10 @@ returns : tie.Need-returns
 returns c =
     let n = c .before .before .before in
     let l = n .put-nibbles .result in
+    let last-is = back w16 (l .h0) (c .struct-told3 .given .0 .1) in
+    let before-is = back w16 (l .h1) (c .struct-told3 .given .1 .0 .1) in
     frames-are _ _ _ _ _ _ _ _ _ (keeps-by (zero-is n) (one-is n) (chosen n .keep-header .ensures))
-    (puts-by _ _ (first-is n) (second-is n) (zero-is n) (one-is n) (back w16 (l .h0) (c .struct-told3 .given .0 .1)) (back w16 (l .h1) (c .struct-told3 .given .1 .0 .1)) (n .put-nibbles .ensures))
+    (puts-by _ _ (first-is n) (second-is n) (zero-is n) (one-is n) last-is before-is (n .put-nibbles .ensures))
     (header-put (a n .args .out .now) _ _ (omega (arith, a n .pre .1)))
 
 pub encode-frame-spec : {M : Type 1} → statement M

@@ -1,32 +1,28 @@
 -- `encoder::frame::put_nibbles` meets its contract: what is written and what is left are the whole. Assumes nothing.
-use mathlib.Core.Path.{_≡_, refl, sym, ap, subst, _∙_}
-use mathlib.Core.List.{List}
-use Prim.Native.Nat.{ℕ, _+_, _*_, _-_, _/_, _≤_, _<_, _^_}
+use mathlib.Core.Path.{_≡_, refl}
+use Prim.Native.Nat.{_+_, _-_, _/_}
 use borrow.Author.Needs.{needs}
 use native.Mathlib.Omega.{arith}
-use lib.IntN.{ℤ, pos}
-use lib.ListN.{length, drop}
+use lib.ListN.{length}
 use mir.Syntax.{w16}
-use mir.Val.{SFits, toZ, ofZ}
+use mir.Val.{toZ, ofZ}
 use mir.Facts.{toZ-ofZ}
-use Rattle.encoder.specs.Encode.{contextAfter}
-use Rattle.encoder.specs.Frame.{bytesFor, contextFor, Puts}
+use Rattle.encoder.proofs.WholeFrame.{puts-by}
+use Rattle.trial.proofs.Trying.{fits-again}
 use Rattle.encoder.proofs.Putting.{Putting, put-begin, put-more, put-end, packs-by}
 use Rattle.encoder.proofs.frame.put_nibbles.Statement.{statement}
 use Rattle.encoder.proofs.frame.put_nibbles.Tie as tie
 
 abbrev Inv-loop : tie.InvT-loop
 Inv-loop samples s c d h0 h1 out₀ a₀ b₀ j₀ out a b j =
-    (length out₀ ≡ (length samples + 1) / 2) × Putting s (toZ w16 c) (toZ w16 d) samples (toZ w16 h0) (toZ w16 h1) out₀ out (toZ w16 a) (toZ w16 b) j
+    (length out₀ ≡ (length samples + 1) / 2)
+    × Putting s (toZ w16 c) (toZ w16 d) samples (toZ w16 h0) (toZ w16 h1) out₀ out (toZ w16 a) (toZ w16 b) j
 
 abbrev μ-loop : tie.MeasureT-loop
 μ-loop samples s c d h0 h1 out₀ a₀ b₀ j₀ out a b j = length out₀ - j
 
-again : {z : ℤ} → SFits w16 z → SFits w16 (toZ w16 (ofZ w16 z))
-again f = subst (SFits w16) (sym (toZ-ofZ f)) f
-
 loop-holds : tie.Need-loop-holds Inv-loop μ-loop
-loop-holds c = (c .before .pre .2, put-begin _ _ _ _ _ _ _ (again (c .before .fits .h0)) (again (c .before .fits .h1)))
+loop-holds c = (c .before .pre .2, put-begin _ _ _ _ _ _ _ (fits-again (c .before .fits .h0)) (fits-again (c .before .fits .h1)))
 
 mul-next-byte : tie.Need-mul-next-byte Inv-loop μ-loop
 mul-next-byte c = search needs
@@ -47,9 +43,10 @@ loop-again : tie.Need-loop-again Inv-loop μ-loop
 loop-again c =
     let t = c .before .before in
     let l = t .before .before in
-    let r = t .next-byte .ensures in (
+    let r = t .next-byte .ensures in
+    let packs = packs-by _ _ _ refl (toZ-ofZ (r .fits0)) (toZ-ofZ (r .fits1)) r in (
       l .loop .inv .0,
-      put-more _ _ _ _ _ _ _ _ _ _ _ (l .loop .inv .1) (omega (arith, t .before .loop-test .taken, l .loop .inv .1 .size)) _ _ _ (packs-by _ _ _ refl (toZ-ofZ (r .fits0)) (toZ-ofZ (r .fits1)) r),
+      put-more _ _ _ _ _ _ _ _ _ _ _ (l .loop .inv .1) (omega (arith, t .before .loop-test .taken, l .loop .inv .1 .size)) _ _ _ packs,
     )
 
 same-length : tie.Need-same-length Inv-loop μ-loop
@@ -57,13 +54,10 @@ same-length c = search needs
 
 returns : tie.Need-returns Inv-loop μ-loop
 returns c =
-    let a = c .before .before .before in
-    let l = c .before in
-    let e = put-end _ _ _ _ _ _ _ _ _ _ _ (l .loop .inv .1) (l .loop .inv .0) (omega (arith, c .loop-test .left, l .loop .inv .1 .size)) in
-    record {
-      bytes = e .bytes ∙ (λ i. bytesFor (a .args .s) (toZ-ofZ (a .fits .c) i) (toZ-ofZ (a .fits .d) i) (a .args .samples .now) (toZ-ofZ (a .fits .h0) i) (toZ-ofZ (a .fits .h1) i));
-      left = λ k. e .left k ∙ (λ i. contextFor (a .args .s) (toZ-ofZ (a .fits .c) i) (toZ-ofZ (a .fits .d) i) k (a .args .samples .now) (toZ-ofZ (a .fits .h0) i) (toZ-ofZ (a .fits .h1) i));
-    }
+    let f = c .before .before .before .fits in
+    let l = c .before .loop in
+    puts-by _ _ (toZ-ofZ (f .c)) (toZ-ofZ (f .d)) (toZ-ofZ (f .h0)) (toZ-ofZ (f .h1)) refl refl
+    (put-end _ _ _ _ _ _ _ _ _ _ _ (l .inv .1) (l .inv .0) (omega (arith, c .loop-test .left, l .inv .1 .size)))
 
 pub put-nibbles-spec : {M : Type 1} → statement M
 put-nibbles-spec =
