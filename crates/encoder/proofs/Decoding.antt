@@ -53,7 +53,12 @@ module _ (ts k : List ℤ) (x : AdpcmContext) (out : List ℕ) (room : sizeOf (l
   -- the same as the call for decoding has it: as many floats as samples, exactly theirs, and what lies beyond stays
   pub call-floats : (floats : List Float) → length ts ≤ length floats
       → outcomeOf (left .output) 0 (length ts) k x floats
-      ≡ record { number = 0; done = length ts; context = left .context; output = floated (encoding .reconstructed) ++ drop (length ts) floats }
+      ≡ record {
+        number = 0;
+        done = length ts;
+        context = left .context;
+        output = floated (encoding .reconstructed) ++ drop (length ts) floats;
+      }
   unfolding outcomeOf
   call-floats floats h =
       simp (le-leb (length ts) (length floats) h)

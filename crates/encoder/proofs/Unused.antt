@@ -53,7 +53,8 @@ module _ (k : List ℤ) where
       let now = take frameSamples ts in
       let e = frameOf k now x in
       let g = encodedFrom n k (drop frameSamples ts) (e .context) in
-      omega (arith, length-append (e .bytes) (g .bytes), length-frame-with k now (x .history0) (x .history1) (keptOf k now (x .history0) (x .history1)))
+      let b = keptOf k now (x .history0) (x .history1) in
+      omega (arith, length-append (e .bytes) (g .bytes), length-frame-with k now (x .history0) (x .history1) b)
 
   unused-from : (n : ℕ) (ts : List ℤ) (x : AdpcmContext) → Count ts n → length ts % 2 ≡ 1 → lastOf (encodedFrom n k ts x .bytes) % 16 ≡ 0
   unfolding encodedFrom
@@ -71,7 +72,9 @@ module _ (k : List ℤ) where
       ∙ unused-from (suc n) then (e .context) (count-next ts (suc n) p) odd
 
   -- where the samples are odd in number
-  pub unused-zero : (ts : List ℤ) (x : AdpcmContext) → length ts % 2 ≡ 1 → getD (encodedOf k ts x .bytes) (sizeOf (length ts) - 1) 0 % 16 ≡ 0
+  pub unused-zero : (ts : List ℤ) (x : AdpcmContext) → length ts % 2 ≡ 1
+      → getD (encodedOf k ts x .bytes) (sizeOf (length ts) - 1) 0 % 16 ≡ 0
   unused-zero ts x h =
       let n = (length ts + 13) / 14 in
-      ap (λ (m : ℕ). getD (encodedOf k ts x .bytes) (m - 1) 0 % 16) (sym (length-encoded k n ts x (count-of ts))) ∙ unused-from n ts x (count-of ts) h
+      ap (λ (m : ℕ). getD (encodedOf k ts x .bytes) (m - 1) 0 % 16) (sym (length-encoded k n ts x (count-of ts)))
+      ∙ unused-from n ts x (count-of ts) h

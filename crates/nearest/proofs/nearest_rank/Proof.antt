@@ -60,7 +60,8 @@ level-requires c κs = search needs
 returns : tie.Need-returns
 returns c =
     let e = c .before .before in
-    least-is (p e) (predicted e) (t e) _ _ 0 refl (quick-none (p e) (predicted e) (t e) (some e) (small e) (u e) (up e) (omega arith)) (c .level .ensures .0)
+    let first = quick-none (p e) (predicted e) (t e) (some e) (small e) (u e) (up e) (omega arith) in
+    least-is (p e) (predicted e) (t e) _ _ 0 refl first (c .level .ensures .0)
 
 sub-low : tie.Need-sub-low
 sub-low c = search needs
@@ -102,7 +103,8 @@ lowest-alike-requires c κs = search needs
 returns-2 : tie.Need-returns-2
 returns-2 c =
     let d = c .before .before in
-    least-is _ _ _ _ _ _ (c .lowest-alike .ensures .0 ∙ same d) (least d (λ h. absurd (omega arith))) (c .lowest-alike .ensures .1 ∙ alike d)
+    let r = c .lowest-alike .ensures in
+    least-is _ _ _ _ _ _ (r .0 ∙ same d) (least d (λ h. absurd (omega arith))) (r .1 ∙ alike d)
 
 level-requires-3 : tie.Need-level-requires-3
 level-requires-3 c κs = let w = up (c .before .before .before) .within in (omega arith, omega arith, omega arith)
@@ -149,7 +151,8 @@ returns-4 c =
     let b = c .before .before in
     let f : t (g b) - levelOf (g b) (low (d b)) ≤ levelOf (g b) (u (g b)) - t (g b) =
     rw (← z-is b, ← y-is (d b)) (c .before .if3 .left) in
-    least-is _ _ _ _ _ _ (c .lowest-alike2 .ensures .0 ∙ same (d b)) (least (d b) (λ h. f)) (c .lowest-alike2 .ensures .1 ∙ alike (d b))
+    let r = c .lowest-alike2 .ensures in
+    least-is _ _ _ _ _ _ (r .0 ∙ same (d b)) (least (d b) (λ h. f)) (r .1 ∙ alike (d b))
 
 pub nearest-rank-spec : {M : Type 1} → statement M
 nearest-rank-spec =
