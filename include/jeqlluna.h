@@ -25,9 +25,9 @@
 extern "C" {
 #endif
 
-#define JEQLLUNA_VERSION "0.7.0"
+#define JEQLLUNA_VERSION "0.8.0"
 #define JEQLLUNA_VERSION_MAJOR 0
-#define JEQLLUNA_VERSION_MINOR 7
+#define JEQLLUNA_VERSION_MINOR 8
 #define JEQLLUNA_VERSION_PATCH 0
 
 /* The bytes of stack that a call takes at most; measured, and held to by bindings/stack. */
@@ -48,7 +48,8 @@ enum {
     JEQLLUNA_DSP_HEADER = 11, /* DSP file: fewer than 96 bytes, or format, gain or padding is not 0 */
     JEQLLUNA_DSP_LENGTH = 12, /* DSP file: the data is too short for its samples, or the output for the file */
     JEQLLUNA_RANGES = 13, /* more than 16 ranges; a part outside memory; or a base below the end of the range before */
-    JEQLLUNA_COUNT = 14   /* a section of more than 1,024 renders */
+    JEQLLUNA_COUNT = 14,  /* a section of more than 1,024 renders */
+    JEQLLUNA_ENCODED = 15 /* ADPCM: the output is too short for the encoded samples */
 };
 
 /* What a number says, in words. Never NULL. */
@@ -82,6 +83,8 @@ static inline const char *jeqlluna_refusal(uint32_t number) {
         return "there are more than 16 ranges, a part lies outside memory, or a base below the end of the range before";
     case JEQLLUNA_COUNT:
         return "a section has more than 1,024 renders";
+    case JEQLLUNA_ENCODED:
+        return "the output of an ADPCM encode is too short for the samples";
     default:
         return "an unknown number";
     }
@@ -118,7 +121,7 @@ typedef struct {
     uint32_t mixes[31];     /* their numbers, the first to run first; 0 beyond count */
 } JeqllunaOrder;
 
-/* What an ADPCM decode starts from and leaves: the last header, the last sample and the one before it. */
+/* What an ADPCM decode or encode starts from and leaves: the last header, the last sample and the one before it. */
 typedef struct {
     uint16_t pred_scale;
     int16_t history0, history1;
@@ -129,6 +132,13 @@ typedef struct {
     size_t done; /* samples decoded, fewer than count where the data ran out */
     JeqllunaContext context;
 } JeqllunaDecoded;
+
+typedef struct {
+    uint32_t number;
+    size_t size; /* bytes written */
+    JeqllunaContext context;
+    uint64_t error; /* the sum of the squared differences between what was encoded and what it decodes to; 2^64 - 1 if it would be more */
+} JeqllunaEncoded;
 
 /* The values of a DSP file's header, in the file's sequence; padding is none of them. */
 typedef struct {
@@ -206,6 +216,18 @@ JeqllunaOrder jeqlluna_mix_order(
 JeqllunaDecoded jeqlluna_decode_adpcm(
     const uint8_t *data, size_t data_len, uint64_t start, size_t count, const int16_t *coefficients, size_t coefficients_len,
     JeqllunaContext context, float *output, size_t output_len);
+
+/* Encodes samples as ADPCM frames to the front of output; no renderer is needed. Samples take 8 bytes for each 14 of them; of the rest, if
+ * there is any, a byte for its header and one for each two or a last one alone, whose low nibble is 0. Bytes beyond them stay. For each
+ * frame every header with predictor 0 to 7 and scale 0 to 15 is tried, from the samples before the frame as they decode: each nibble in
+ * turn is the one whose decoded sample is nearest, the lowest signed one of several. The header kept has the least sum of squared
+ * differences, the lowest one of several. Coefficients are taken as in jeqlluna_decode_adpcm, which from the same context decodes the
+ * bytes to the samples that the error was counted with. The context that comes back has the last frame's header and the last two decoded
+ * samples; after whole frames a next call goes on with it. Where there are no samples, size and error are 0 and the context comes back as
+ * it was. Refusal: 15. */
+JeqllunaEncoded jeqlluna_encode_adpcm(
+    const int16_t *samples, size_t samples_len, const int16_t *coefficients, size_t coefficients_len, JeqllunaContext context,
+    uint8_t *output, size_t output_len);
 
 /* Reads a DSP file: its header, 96 bytes, big-endian, and where its data stands. Samples take 8 bytes for each 14 of them; of the rest, if
  * there is any, a byte for its header and one for each two or a last one alone. The data has as many bytes or more. Other values than

@@ -136,6 +136,33 @@ static void decode(int at_end, uint64_t *seed) {
     release(out);
 }
 
+/* Samples are encoded to an output of just the bytes that they take, or of one byte less. */
+static void encode(int at_end, uint64_t *seed) {
+    int16_t samples[40], pairs[20];
+    uint8_t expected[24], *output;
+    size_t n = below(seed, 41), m = below(seed, 21), size = n / 14 * 8 + (n % 14 > 0 ? 1 + (n % 14 + 1) / 2 : 0);
+    size_t room = size > 0 && below(seed, 4) == 0 ? size - 1 : size;
+    JeqllunaContext context;
+    JeqllunaEncoded a, b;
+    Region in = region(sizeof samples), with = region(sizeof pairs), out = region(sizeof expected);
+    put_random(seed, (uint8_t *)samples, sizeof samples);
+    put_random(seed, (uint8_t *)pairs, sizeof pairs);
+    put_random(seed, (uint8_t *)&context, sizeof context);
+    output = place(out, room, at_end);
+    memset(output, 0x5a, room);
+    memset(expected, 0x5a, sizeof expected);
+    a = jeqlluna_encode_adpcm(
+        (const int16_t *)(const void *)lend(in, (const uint8_t *)samples, n * sizeof *samples, at_end), n,
+        (const int16_t *)(const void *)lend(with, (const uint8_t *)pairs, m * sizeof *pairs, at_end), m, context, output, room);
+    b = jeqlluna_encode_adpcm(samples, n, pairs, m, context, expected, room);
+    hold("encode", a.number == (room < size ? (uint32_t)JEQLLUNA_ENCODED : 0u) && a.number == b.number && a.size == b.size);
+    hold("encode", a.error == b.error && memcmp(&a.context, &b.context, sizeof context) == 0);
+    hold("bytes", memcmp(output, expected, room) == 0);
+    release(in);
+    release(with);
+    release(out);
+}
+
 /* A DSP file is read, and its header and data are written to an output of its length, or of a byte less or more. */
 static void dsp(int at_end, uint64_t *seed) {
     uint8_t file[DSP_MOST], expected[DSP_MOST + 1], *output;
@@ -167,6 +194,7 @@ static void session(const Counts *c, int at_end, uint64_t seed) {
     Region parameters = region(sizeof p), memory = region(MEMORY), held[5];
     Desk plain = open_desk(c), g = plain;
     Sound sound;
+    uint64_t recordings = seed;
     int k;
     sound.format = formats[below(&seed, 4)];
     sound.pitch = (float)below(&seed, 1700) / 100.0f;
@@ -204,6 +232,7 @@ static void session(const Counts *c, int at_end, uint64_t seed) {
             render(&g, &plain, c, memory, bytes, 1, at_end, &seed);
         }
         decode(at_end, &seed);
+        encode(at_end, &recordings);
         dsp(at_end, &seed);
     }
     for (k = 0; k < 5; k++) {

@@ -162,6 +162,25 @@ static void adpcm(void) {
     hold("decode of nothing", d.context.history0 == -3, 1);
 }
 
+/* Encodes: no samples, no coefficients, no output. */
+static void encode(void) {
+    const int16_t samples[3] = {100, -200, 300}, pairs[16] = {0};
+    const JeqllunaContext context = {0x12, -3, 4};
+    uint8_t output[3] = {0}, other[3] = {0};
+    JeqllunaEncoded e = jeqlluna_encode_adpcm(samples, 3, NULL, 0, context, output, 3);
+    hold("encode without coefficients", e.number, 0);
+    hold("encode without coefficients", e.size, 3);
+    hold("encode with zeros", jeqlluna_encode_adpcm(samples, 3, pairs, 16, context, other, 3).error, (unsigned long)e.error);
+    hold("bytes", memcmp(output, other, sizeof output) == 0, 1);
+    e = jeqlluna_encode_adpcm(NULL, 0, pairs, 16, context, output, 3);
+    hold("encode without samples", e.number, 0);
+    hold("encode without samples", e.size + e.error, 0);
+    hold("encode without samples", e.context.pred_scale == 0x12 && e.context.history0 == -3 && e.context.history1 == 4, 1);
+    hold("bytes", memcmp(output, other, sizeof output) == 0, 1);
+    hold("encode without output", jeqlluna_encode_adpcm(samples, 3, pairs, 16, context, NULL, 0).number, JEQLLUNA_ENCODED);
+    hold("encode of nothing", jeqlluna_encode_adpcm(NULL, 0, NULL, 0, context, NULL, 0).number, 0);
+}
+
 /* DSP files: no file, no data, no output. */
 static void dsp(void) {
     uint8_t file[96] = {0}, output[96] = {0};
@@ -194,6 +213,7 @@ int main(void) {
     calls_of(&SMALL);
     calls_of(&MIDDLE);
     adpcm();
+    encode();
     dsp();
     printf("%d answers with NULL\n", calls);
     return 0;

@@ -133,6 +133,28 @@ static void adpcm_refused(void) {
     expect("decode", d.number, JEQLLUNA_OUTPUT, d.done != 0 || d.context.history0 != 0 || !marked(output, sizeof output));
 }
 
+/* Encodes to outputs of every length: 15 below what the samples take. */
+static void encode_refused(void) {
+    const int16_t samples[30] = {1000, -2000, 3000};
+    const JeqllunaContext context = {1, 2, 3};
+    uint8_t output[18];
+    size_t n, room;
+    for (n = 0; n <= 30; n++) {
+        size_t size = n / 14 * 8 + (n % 14 > 0 ? 1 + (n % 14 + 1) / 2 : 0);
+        for (room = 0; room <= size; room++) {
+            JeqllunaEncoded e;
+            memset(output, 0x5a, sizeof output);
+            e = jeqlluna_encode_adpcm(samples, n, NULL, 0, context, output, room);
+            if (room < size) {
+                int zeros = e.size == 0 && e.error == 0 && e.context.pred_scale == 0 && e.context.history0 == 0 && e.context.history1 == 0;
+                expect("encode", e.number, JEQLLUNA_ENCODED, !zeros || !marked(output, sizeof output));
+            } else {
+                expect("encode", e.number, JEQLLUNA_OK, e.size != size || !marked(output + size, sizeof output - size));
+            }
+        }
+    }
+}
+
 /* Files and writes: 11 for each byte that it asks of, 12 after it. */
 static void dsp_refused(void) {
     const JeqllunaDspRead none = {0, {0, 0, 0, 0, 0, 0, 0, 0, {0}, 0, {0, 0, 0}, {0, 0, 0}}, 0, 0};
@@ -181,6 +203,7 @@ int main(void) {
     state_refused();
     rooms_refused();
     adpcm_refused();
+    encode_refused();
     dsp_refused();
     printf("%d answers by number\n", answers);
     return 0;

@@ -19,9 +19,9 @@
 
 #define RENDERS 2 /* of a section */
 
-enum { LENGTHS, REPLY_LENGTH, OPEN, UPDATE, RENDER, SECTION, ORDER, DECODE, READ_DSP, WRITE_DSP };
+enum { LENGTHS, REPLY_LENGTH, OPEN, UPDATE, RENDER, SECTION, ORDER, DECODE, ENCODE, READ_DSP, WRITE_DSP };
 static const char *const names[] = {
-    "lengths", "reply length", "open", "update", "render", "section", "mix order", "decode", "read DSP", "write DSP"};
+    "lengths", "reply length", "open", "update", "render", "section", "mix order", "decode", "encode", "read DSP", "write DSP"};
 
 typedef struct {
     int call, cut; /* cut: whether the memory of a render or section is in ranges that touch */
@@ -33,13 +33,20 @@ typedef struct {
 } Work;
 
 static uint64_t *low; /* the lowest place of the stack */
+static int16_t samples[MEMORY / 2];
 static uint8_t memory[MEMORY], slice[MEMORY], reply[20000], parameters[JEQLLUNA_PARAMETERS];
 static uint64_t ranges[NUMBERS_MOST];
 static size_t numbers; /* of the ranges */
 static float frames[RENDERS * 512];
 static size_t deepest = 0;
 
-/* The calls for DSP files, apart, so that their larger answers are not counted for other calls. */
+/* An encode, and the calls for DSP files, apart, so that their larger answers are not counted for other calls. */
+__attribute__((noinline)) static void encode_call(Work *w) {
+    static const int16_t pairs[16] = {2048, 0, 3680, -1664, 3120, -1104};
+    const JeqllunaContext context = {0, 0, 0};
+    w->number = jeqlluna_encode_adpcm(samples, MEMORY / 2, pairs, 16, context, reply, sizeof reply).number;
+}
+
 __attribute__((noinline)) static void file_call(Work *w) {
     static JeqllunaDsp header; /* of no samples */
     w->number = w->call == READ_DSP ? jeqlluna_read_dsp(reply, sizeof reply).number
@@ -81,6 +88,9 @@ static void call(Work *w) {
         break;
     case DECODE:
         w->number = jeqlluna_decode_adpcm(memory, MEMORY, 0, 256, pairs, 16, context, frames, 512).number;
+        break;
+    case ENCODE:
+        encode_call(w);
         break;
     default:
         file_call(w);
@@ -188,10 +198,12 @@ static void desk(const char *name, const Counts *c) {
     free(title);
 }
 
-/* The calls that need no desk: a DSP file written, and the same read. */
+/* The calls that need no desk: an encode; a DSP file written, and the same read. */
 static void files(void) {
     Work w;
     memset(&w, 0, sizeof w);
+    w.call = ENCODE;
+    print("any", names[ENCODE], measure(w, 1));
     for (w.call = WRITE_DSP; w.call >= READ_DSP; w.call--) {
         print("any", names[w.call], measure(w, 1));
     }
@@ -204,6 +216,7 @@ int main(void) {
         fail("mmap");
     }
     put_memory(&seed, memory);
+    put_random(&seed, (uint8_t *)samples, sizeof samples);
     while ((numbers = cut_memory(&seed, memory, slice, ranges)) < 16 * RANGE) {
     }
     desk("small", &SMALL);

@@ -1,5 +1,5 @@
-/* Eight threads, each with its own renderer and DSP files, all with the same sample memory, give the frames, replies, states and files that
- * each gives alone: threads [RENDERS]. Every fourth render is a section of two. */
+/* Eight threads, each with its own renderer, DSP files and encodes, all with the same sample memory, give the frames, replies, states,
+ * files and bytes that each gives alone: threads [RENDERS]. Every fourth render is a section of two. */
 #ifndef _GNU_SOURCE
 #define _GNU_SOURCE 1
 #endif
@@ -31,6 +31,21 @@ static uint64_t dsp(uint64_t s, uint64_t *seed) {
         fail("a DSP file: read %u, written %u", (unsigned)r.number, (unsigned)w.number);
     }
     return sum(sum(s, output, w.size), &r.number, sizeof r.number);
+}
+
+/* Goes on from a sum over the frames of any samples, on the thread's own stack. */
+static uint64_t encode(uint64_t s, uint64_t *seed) {
+    int16_t samples[40], pairs[16];
+    uint8_t output[24];
+    const JeqllunaContext context = {0, 1, -1};
+    JeqllunaEncoded e;
+    put_random(seed, (uint8_t *)samples, sizeof samples);
+    put_random(seed, (uint8_t *)pairs, sizeof pairs);
+    e = jeqlluna_encode_adpcm(samples, 40, pairs, 16, context, output, sizeof output);
+    if (e.number != 0) {
+        fail("encode: %s", jeqlluna_refusal(e.number));
+    }
+    return sum(sum(s, output, e.size), &e.error, sizeof e.error);
 }
 
 /* A session by its seed; the result sums up all that the calls gave. */
@@ -67,6 +82,7 @@ static void *run(void *given) {
         s = sum(s, frames, (k % 4 == 3 ? 2 * n : n) * sizeof *frames);
         s = sum(s, &r.rounds, sizeof r.rounds);
         s = dsp(s, &seed);
+        s = encode(s, &seed);
     }
     w->result = s ^ desk_sum(&d);
     close_desk(&d);

@@ -5,7 +5,7 @@
 //!
 //! It prints how many calls were answered how, and fails where the process is not limited, a refusal changes something, or a kind of answer
 //! never came.
-use jeqlluna::{PARAMETERS, Range, Refusal, Renderer, read_dsp, write_dsp};
+use jeqlluna::{AdpcmContext, PARAMETERS, Range, Refusal, Renderer, encode_adpcm, read_dsp, write_dsp};
 use std::collections::BTreeMap;
 use std::process::ExitCode;
 
@@ -155,6 +155,16 @@ fn files(r: &mut Random, tally: &mut BTreeMap<(&'static str, u32), u64>) {
     }
 }
 
+/// Encodes any samples with any coefficients to an output of any length.
+fn encodes(r: &mut Random, tally: &mut BTreeMap<(&'static str, u32), u64>) {
+    let (mut bytes, mut output) = (vec![0; 2 * (16 + r.below(40))], vec![0; r.below(40)]);
+    r.fill(&mut bytes);
+    let numbers: Vec<i16> = bytes.chunks(2).map(|two| i16::from_le_bytes([two[0], two[1]])).collect();
+    let (coefficients, samples) = numbers.split_first_chunk::<16>().expect("so many");
+    let mut context = AdpcmContext { pred_scale: r.next() as u16, history0: r.next() as i16, history1: r.next() as i16 };
+    count(tally, "encode", &encode_adpcm(samples, coefficients, &mut context, &mut output));
+}
+
 /// Whether the process may take no more than it should.
 fn limited() -> bool {
     let limits = std::fs::read_to_string("/proc/self/limits").unwrap_or_default();
@@ -231,6 +241,9 @@ fn main() -> ExitCode {
                 count(&mut tally, "positions", &renderer.positions());
             }
             files(r, &mut tally);
+            if r.below(16) == 0 {
+                encodes(r, &mut tally);
+            }
             if r.below(4) == 0 {
                 looked += renders(r, &mut renderer, &memory, &mut tally);
             }
@@ -241,7 +254,8 @@ fn main() -> ExitCode {
     }
     println!("{made} updates, the longest reply {longest} bytes; of the refused {looked} were looked at, and none had changed anything");
     let due = [
-        ("open", &[0, 1, 2][..]),
+        ("encode", &[0, 15][..]),
+        ("open", &[0, 1, 2]),
         ("positions", &[0]),
         ("read_dsp", &[0, 11, 12]),
         ("render", &[0, 5, 7, 13]),

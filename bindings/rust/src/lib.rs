@@ -21,7 +21,7 @@
 //! Sample memory is one slice in up to 16 ranges, each a [`Range`]; [`Range::whole`] is all of it. [`Renderer::render_section`] makes many
 //! renders in one call.
 //!
-//! [`decode_adpcm`], [`read_dsp`] and [`write_dsp`] need no renderer: ADPCM alone, and clips as DSP files.
+//! [`decode_adpcm`], [`encode_adpcm`], [`read_dsp`] and [`write_dsp`] need no renderer: ADPCM alone, and clips as DSP files.
 //!
 //! # Memory
 //!
@@ -40,6 +40,7 @@ extern crate alloc;
 
 mod adpcm;
 mod dsp;
+mod encode;
 mod mode;
 mod parameters;
 mod positions;
@@ -57,6 +58,7 @@ struct Readme;
 
 pub use adpcm::decode_adpcm;
 pub use dsp::{read_dsp, write_dsp};
+pub use encode::{Encoded, encode_adpcm};
 pub use parameters::{PARAMETERS, Parameters, revision};
 pub use positions::Position;
 pub use range::Range;

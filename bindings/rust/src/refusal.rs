@@ -31,6 +31,8 @@ pub enum Refusal {
     Ranges,
     /// 14: a section has more than 1,024 renders.
     Count,
+    /// 15: the output of an ADPCM encode is too short for the samples.
+    Encoded,
     /// A number that this version of the crate does not know, from a library of another version.
     Other(u32),
 }
@@ -52,6 +54,7 @@ impl Refusal {
             Refusal::DspLength => 12,
             Refusal::Ranges => 13,
             Refusal::Count => 14,
+            Refusal::Encoded => 15,
             Refusal::Other(number) => number,
         }
     }
@@ -73,6 +76,7 @@ impl Refusal {
             12 => Refusal::DspLength,
             13 => Refusal::Ranges,
             14 => Refusal::Count,
+            15 => Refusal::Encoded,
             number => Refusal::Other(number),
         })
     }
@@ -93,6 +97,7 @@ impl Refusal {
             Refusal::DspLength => "the data of a DSP file is too short for its samples, or the output for the file",
             Refusal::Ranges => "there are more than 16 ranges, a part lies outside memory, or a base below the end of the range before",
             Refusal::Count => "a section has more than 1,024 renders",
+            Refusal::Encoded => "the output of an ADPCM encode is too short for the samples",
             Refusal::Other(_) => "an unknown number",
         }
     }

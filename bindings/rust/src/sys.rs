@@ -68,7 +68,7 @@ pub struct Order {
     pub mixes: [u32; 31],
 }
 
-/// What an ADPCM decode starts from and leaves: the last header, the last sample and the one before it.
+/// What an ADPCM decode or encode starts from and leaves: the last header, the last sample and the one before it.
 #[repr(C)]
 #[derive(Clone, Copy, Debug, Default, PartialEq, Eq)]
 pub struct AdpcmContext {
@@ -90,6 +90,20 @@ pub struct Decoded {
     pub done: usize,
     /// The context for the next decode.
     pub context: AdpcmContext,
+}
+
+/// What an ADPCM encode answers.
+#[repr(C)]
+#[derive(Clone, Copy, Debug, PartialEq, Eq)]
+pub struct Encoded {
+    /// 0, or the refusal's number.
+    pub number: u32,
+    /// Bytes written.
+    pub size: usize,
+    /// The context for the next encode.
+    pub context: AdpcmContext,
+    /// The sum of the squared differences between what was encoded and what it decodes to; 2^64 - 1 if it would be more.
+    pub error: u64,
 }
 
 /// The values of a DSP file's header, in the file's sequence; padding is none of them.
@@ -258,6 +272,17 @@ unsafe extern "C" {
         output: *mut f32,
         output_len: usize,
     ) -> Decoded;
+
+    /// Encodes samples as ADPCM frames to the front of the output; no renderer is needed. Refusal: 15.
+    pub fn jeqlluna_encode_adpcm(
+        samples: *const i16,
+        samples_len: usize,
+        coefficients: *const i16,
+        coefficients_len: usize,
+        context: AdpcmContext,
+        output: *mut u8,
+        output_len: usize,
+    ) -> Encoded;
 
     /// The header of a DSP file, and where its data stands. Refusals: 11, 12.
     pub fn jeqlluna_read_dsp(file: *const u8, file_len: usize) -> DspRead;

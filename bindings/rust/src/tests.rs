@@ -1,6 +1,7 @@
 //! The crate's tests, on the library that it links.
 mod adpcm;
 mod dsp;
+mod encode;
 mod lengths;
 mod modes;
 mod positions;

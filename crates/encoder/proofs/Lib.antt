@@ -2,6 +2,7 @@ pub mod Packed
 pub mod Sizes
 pub mod Sums
 pub mod Unused
+pub mod Pieces
 pub mod FrameDecoded
 pub mod Decoded
 pub mod Decoding

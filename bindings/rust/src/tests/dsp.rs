@@ -77,6 +77,10 @@ fn a_looped_file_plays() {
     let sample = |nibble: u32| nibble / 16 * 14 + nibble % 16 - 2;
     let (start, end) = (sample(header.loop_start), sample(header.loop_end) + 1);
     assert_eq!((header.samples, start, end), (80, 45, 80));
+    // The loop's context is what a decode of the samples before it leaves.
+    let mut before = header.start_context;
+    assert_eq!(decode_adpcm(data, 0, 45, &header.coefficients, &mut before, &mut [0.0; 45]), Ok(45));
+    assert_eq!(before, header.loop_context);
     let coefficients: Vec<u8> = header.coefficients.iter().flat_map(|c| c.to_le_bytes()).collect();
     let memory = [&coefficients[..], &context(&header.start_context), &context(&header.loop_context), data].concat();
     let base = 0x10000;
