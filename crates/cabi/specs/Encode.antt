@@ -12,6 +12,7 @@ use Rattle.cabi.specs.declared.encode.JeqllunaEncoded.{JeqllunaEncoded}
 abbrev pub encodeLeft : JeqllunaEncoded → List ℕ → EncodeOutcome
 encodeLeft r out = record { number = r .number; size = r .size; context = contextIn (r .context); error = r .error; output = out }
 
+-- an answer of these numbers
 abbrev pub encodedAs : ℕ → ℕ → ℕ → ℤ → ℤ → ℕ → JeqllunaEncoded
 encodedAs n size p h0 h1 e =
     record { number = n; size = size; context = record { «pred_scale» = p; history0 = h0; history1 = h1 }; error = e }

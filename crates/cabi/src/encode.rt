@@ -1,6 +1,5 @@
 // The call for encoding to ADPCM.
 ghost use mathlib.Core.Path.{_≡_};
-ghost use lib.IntN.{pos};
 ghost use Rattle.encoder.specs.Answer.{encodeCall};
 ghost use Rattle.cabi.specs.Decode.{contextIn, sixteenOf};
 ghost use Rattle.cabi.specs.Encode.{encodeLeft, encodeTold};

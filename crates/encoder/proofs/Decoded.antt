@@ -23,13 +23,13 @@ abbrev given : Encoded → Run
 given e = record { samples = e .reconstructed; context = e .context }
 
 -- n frames of the samples ts, behind f frames in the bytes p and before the bytes more, decode to what is given
-abbrev Decodes : ℕ → List ℤ → List ℕ → List ℕ → ℕ → List ℤ → AdpcmContext → Type 0
-Decodes n k p more f ts x =
+abbrev GivesBack : ℕ → List ℤ → List ℕ → List ℕ → ℕ → List ℤ → AdpcmContext → Type 0
+GivesBack n k p more f ts x =
     let e = encodedFrom n k ts x in runFrom (p ++ (e .bytes ++ more)) 0 k (length ts) (frameSamples * f) x ≡ given e
 
-Whole : ℕ → Type 0
-Whole n = (k : List ℤ) (p more : List ℕ) (f : ℕ) (ts : List ℤ) (x : AdpcmContext) → length p ≡ 8 * f → Count ts n
-    → Decodes n k p more f ts x
+AllGiveBack : ℕ → Type 0
+AllGiveBack n = (k : List ℤ) (p more : List ℕ) (f : ℕ) (ts : List ℤ) (x : AdpcmContext) → length p ≡ 8 * f → Count ts n
+    → GivesBack n k p more f ts x
 
 -- one frame, and n frames after it
 module _ (n : ℕ) (k : List ℤ) (p more : List ℕ) (f : ℕ) (ts : List ℤ) (x : AdpcmContext)
@@ -65,8 +65,8 @@ module _ (n : ℕ) (k : List ℤ) (p more : List ℕ) (f : ℕ) (ts : List ℤ) 
   this = frame-run k p (g .bytes ++ more) f b now x place some few
 
   -- the frames after this one, of which there are none behind a short one
-  those : (m : ℕ) → m ≡ n → Whole m → runFrom bytes 0 k (length then) (frameSamples * f + length now) (e .context) ≡ given g
-  unfolding Whole encodedFrom
+  those : (m : ℕ) → m ≡ n → AllGiveBack m → runFrom bytes 0 k (length then) (frameSamples * f + length now) (e .context) ≡ given g
+  unfolding AllGiveBack encodedFrom
   those zero z w =
       let none : length then ≡ 0 = omega (arith, length-drop frameSamples ts, count .most) in
       run-zero bytes k (length then) (frameSamples * f + length now) (e .context) none
@@ -78,12 +78,12 @@ module _ (n : ℕ) (k : List ℤ) (p more : List ℕ) (f : ℕ) (ts : List ℤ) 
       let at : frameSamples * f + length now ≡ frameSamples * (f + 1) = omega arith in
       let left : Count then (suc m) = subst (Count then) (sym z) (count-next ts n count) in
       (λ i. runFrom (sym (append-assoc p (e .bytes) (g .bytes ++ more)) i) 0 k (length then) (at i) (e .context))
-      ∙ subst (λ (j : ℕ). Decodes j k (p ++ e .bytes) more (f + 1) then (e .context)) z
+      ∙ subst (λ (j : ℕ). GivesBack j k (p ++ e .bytes) more (f + 1) then (e .context)) z
       (w k (p ++ e .bytes) more (f + 1) then (e .context) next left)
 
-  whole-by : Whole n → Decodes (suc n) k p more f ts x
+  all-by : AllGiveBack n → GivesBack (suc n) k p more f ts x
   unfolding encodedFrom
-  whole-by w =
+  all-by w =
       let long : length (runFrom bytes 0 k (length now) (frameSamples * f) x .samples) ≡ length now =
       ap (λ (r : Run). length (r .samples)) this ∙ frame-reconstructed k now (x .history0) (x .history1) b in
       (λ i. runFrom (p ++ append-assoc (e .bytes) (g .bytes) more i) 0 k (both i) (frameSamples * f) x)
@@ -91,15 +91,15 @@ module _ (n : ℕ) (k : List ℤ) (p more : List ℕ) (f : ℕ) (ts : List ℤ) 
       ∙ (λ i. joined (this i) (runFrom bytes 0 k (length then) (frameSamples * f + length now) (this i .context)))
       ∙ ap (joined (given e)) (those n refl w)
 
-whole : (n : ℕ) → Whole n
-unfolding Whole encodedFrom
-whole zero k p more f ts x place count = run-zero (p ++ ([] ++ more)) k (length ts) (frameSamples * f) x (omega (arith, count .most))
-whole (suc n) k p more f ts x place count = whole-by n k p more f ts x place count (whole n)
+all : (n : ℕ) → AllGiveBack n
+unfolding AllGiveBack encodedFrom
+all zero k p more f ts x place count = run-zero (p ++ ([] ++ more)) k (length ts) (frameSamples * f) x (omega (arith, count .most))
+all (suc n) k p more f ts x place count = all-by n k p more f ts x place count (all n)
 
 -- from sample 0 on and given what the encoder wrote, with anything behind it, the decoder gives the samples that the encoder predicted, and
 -- its context
 pub decoded : (k ts : List ℤ) (x : AdpcmContext) (more : List ℕ)
     → runOf (encodedOf k ts x .bytes ++ more) 0 (length ts) k x
     ≡ record { samples = encodedOf k ts x .reconstructed; context = encodedOf k ts x .context }
-unfolding nibbleOf Whole
-decoded k ts x more = whole ((length ts + 13) / 14) k [] more 0 ts x refl (count-of ts)
+unfolding nibbleOf AllGiveBack
+decoded k ts x more = all ((length ts + 13) / 14) k [] more 0 ts x refl (count-of ts)

@@ -21,11 +21,9 @@ use Rattle.trial.specs.Trial.{frameSamples, pairFirst, pairSecond, nearestSampl
 use Rattle.encoder.specs.Encode.{packed, contextAfter, Encoded, frameWith}
 use Rattle.encoder.proofs.Packed.{length-packed, Nibbles, nibbles-all, half-is}
 
-yes : (b : Bool) (t u : Took) → b ≡ true → cond b t u ≡ t
-yes b t u h = ap (λ (c : Bool). cond c t u) h
-
-no : (b : Bool) (t u : Took) → b ≡ false → cond b t u ≡ u
-no b t u h = ap (λ (c : Bool). cond c t u) h
+-- a choice by a test whose outcome is known
+by-test : {c : Bool} (b : Bool) (t u : Took) → b ≡ c → cond b t u ≡ cond c t u
+by-test b t u h = ap (λ (d : Bool). cond d t u) h
 
 -- ---- where sample j of frame f stands: the header is byte 8 f, and two samples take a byte of the seven after it
 
@@ -90,7 +88,7 @@ module _ (k : List ℤ) (p rest : List ℕ) (f b : ℕ) (vs : List ℕ) (place :
       → valueOf s (8 * f + 1 + j / 2) high k y ≡ Got (after (getD vs j 0) k y)
   unfolding valueOf
   value j h y high e =
-      no (leb (length s) (8 * f + 1 + j / 2)) _ _ (lt-leb (length s) (8 * f + 1 + j / 2) (omega (arith, long, byte-in j h)))
+      by-test (leb (length s) (8 * f + 1 + j / 2)) _ _ (lt-leb (length s) (8 * f + 1 + j / 2) (omega (arith, long, byte-in j h)))
       ∙ (λ i. Got (after (halfOf (sym e i) (byte (j / 2) (byte-in j h) i)) k y))
       ∙ ap (λ (v : ℕ). Got (after v k y)) (half-is vs j small h)
 
@@ -99,9 +97,9 @@ module _ (k : List ℤ) (p rest : List ℕ) (f b : ℕ) (vs : List ℕ) (place :
   took-first h y =
       let at : nibbleOf (14 * f + 0) / 2 - 0 ≡ 8 * f = omega (arith, first-at f) in
       let next : 8 * f + 1 ≡ 8 * f + 1 + 0 / 2 = omega arith in
-      yes (eqb ((14 * f + 0) % 14) 0) _ _ (eq-eqb ((14 * f + 0) % 14) 0 (omega arith))
+      by-test (eqb ((14 * f + 0) % 14) 0) _ _ (eq-eqb ((14 * f + 0) % 14) 0 (omega arith))
       ∙ ap (λ (a : ℕ). cond (leb (length s) a) (Short y) (valueOf s (a + 1) true k (headed (getD s a 0) y))) at
-      ∙ no (leb (length s) (8 * f)) _ _ (lt-leb (length s) (8 * f) (omega (arith, long)))
+      ∙ by-test (leb (length s) (8 * f)) _ _ (lt-leb (length s) (8 * f) (omega (arith, long)))
       ∙ (λ i. valueOf s (next i) true k (headed (header i) y))
       ∙ value 0 h (headed b y) true refl
 
@@ -110,7 +108,7 @@ module _ (k : List ℤ) (p rest : List ℕ) (f b : ℕ) (vs : List ℕ) (place :
   unfolding tookOf
   took-later j l h y =
       let at : nibbleOf (14 * f + j) / 2 - 0 ≡ 8 * f + 1 + j / 2 = omega (arith, later-at f j l (omega arith)) in
-      no (eqb ((14 * f + j) % 14) 0) _ _ (ne-eqb ((14 * f + j) % 14) 0 (λ z. omega arith))
+      by-test (eqb ((14 * f + j) % 14) 0) _ _ (ne-eqb ((14 * f + j) % 14) 0 (λ z. omega arith))
       ∙ (λ i. valueOf s (at i) (even-at f j i) k y)
       ∙ value j h y (eqb (j % 2) 0) refl
 
