@@ -1,9 +1,6 @@
 // DSP files: a header of 96 bytes, then ADPCM frames. A reader, and a writer that gives back the same bytes.
 // Both ask questions 11 and 12 of docs/QUESTIONS.md, in that sequence.
 ghost use mathlib.Core.Path.{_≡_};
-ghost use Prim.Native.Nat.{_+_, _≤_};
-ghost use lib.ListN.{length};
-ghost use Rattle.rows.specs.Rows.{put};
 ghost use Rattle.dsp_file.specs.File.{plainValues, holdsSamples, hasRoom, dataOf, refusedBy};
 ghost use Rattle.dsp_file.specs.File.{readSeen, readCall, writeSeen, writeCall};
 use adpcm::AdpcmContext;
@@ -123,18 +120,6 @@ pub fn dsp_data(file: &[u8]) -> &[u8]
     fields::rest(file, HEADER_BYTES)
 }
 
-// All of the data, in place of the output's bytes from a place on.
-fn put_data(data: &[u8], output: &mut [u8], at: usize)
-    requires { ⌜ at + length (now «data») ≤ length (now output) ⌝ }
-    ensures { λ _. ⌜ now (output .exit) ≡ put (now (output .entry)) at (now («data» .entry)) ⌝ }
-{
-    let mut k: usize = 0;
-    while k < data.len() {
-        output[at + k] = data[k];
-        k += 1;
-    }
-}
-
 // A file of this header and all of this data, to the front of the output.
 pub fn write_dsp(header: DspHeader, data: &[u8], output: &mut [u8]) -> DspWritten
     ensures { λ r. ⌜ writeSeen r (now (output .exit)) ≡ writeCall header (now («data» .entry)) (now (output .entry)) ⌝ }
@@ -149,7 +134,7 @@ pub fn write_dsp(header: DspHeader, data: &[u8], output: &mut [u8]) -> DspWritte
         return DspWritten::Short;
     }
     dsp_header::put_header(header, output);
-    put_data(data, output, HEADER_BYTES);
+    rows::copy_in_u8(output, HEADER_BYTES, data);
     let size = HEADER_BYTES + data.len();
     DspWritten::Written(size)
 }

@@ -3,7 +3,7 @@ use mathlib.Core.List.{List}
 use Prim.Native.Nat.{ℕ, _+_, _^_, _<_}
 use native.Mathlib.Omega.{arith}
 use lib.ListN.{getD}
-use Rattle.fields.specs.Fields.{fieldAt}
+use Rattle.fields.specs.Fields.{fieldAt, sectionOf}
 use Rattle.fields.specs.Reads.{field-below}
 use Rattle.params.specs.declared.sections.Sections.{Sections}
 
@@ -30,6 +30,13 @@ laidOut behavior pools voices resources effects mixes sinks =
 unfoldable pub sectionsOf : List ℕ → Sections
 sectionsOf d =
     laidOut (fieldAt 4 d 0x04) (fieldAt 4 d 0x08) (fieldAt 4 d 0x0c) (fieldAt 4 d 0x10) (fieldAt 4 d 0x14) (fieldAt 4 d 0x18) (fieldAt 4 d 0x1c)
+
+-- two of them; each is empty where it reaches past the input
+abbrev pub voicesSection : List ℕ → List ℕ
+voicesSection input = sectionOf input (sectionsOf input .«voices_at») (sectionsOf input .«voices_size»)
+
+abbrev pub resourcesSection : List ℕ → List ℕ
+resourcesSection input = sectionOf input (sectionsOf input .«resources_at») (sectionsOf input .«resources_size»)
 
 -- sizes are 32 bits, so that places are far below the largest number
 pub record Near (s : Sections) : Type 0 where

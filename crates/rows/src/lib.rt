@@ -1,4 +1,7 @@
 // Rows of a lent slice, of any width: copied out of it and back into it, at each element type.
+mod bytes;
+
+pub use bytes::copy_in_u8;
 ghost use Prim.Native.Nat.{_+_, _≤_};
 ghost use mathlib.Core.Path.{_≡_};
 ghost use lib.ListN.{length};

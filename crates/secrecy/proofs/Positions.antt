@@ -15,11 +15,11 @@ use Rattle.state.specs.State.{State, paramsIn, voiceWordsIn, voiceLongsIn}
 use Rattle.whole.specs.Whole.{wholeOf}
 use Rattle.voice.specs.Voice.{hasDestination}
 use Rattle.voice_records.specs.Record.{recordUsed, splitterOf}
-use Rattle.voices.specs.Voices.{recordAt}
+use Rattle.voices.specs.Voices.{recordAt, voiceRecord}
 use Rattle.reply_sections.specs.Voices.{statusAt}
 use Rattle.reply.specs.Reply.{statusIn}
 use Rattle.updates.specs.Update.{updated, updateReply}
-use Rattle.update_alike.specs.Routes.{voiceRecord, routes}
+use Rattle.update_alike.specs.Routes.{routes}
 use Rattle.calls.specs.Calls.{UpdateOutcome, openCall, updateLeft, updateDone, updateCall}
 use Rattle.secrecy.specs.Sessions.{Call, update, shape, updates, after, said, stateAt}
 use Rattle.secrecy.specs.Declared.{recordSpans, inputSpans}
@@ -86,11 +86,11 @@ section-by : (b : Bool) (at n : ℕ) → cond b (take {A = ℕ} n (drop at [])) 
 section-by true at n = taken-of-none at n
 section-by false at n = refl
 
-section-none : (at n : ℕ) → sectionOf [] at n ≡ []
+pub section-none : (at n : ℕ) → sectionOf [] at n ≡ []
 unfolding sectionOf
 section-none at n = section-by (leb (at + n) 0) at n
 
-none-recorded : (k : ℕ) → voiceRecord [] k ≡ []
+pub none-recorded : (k : ℕ) → voiceRecord [] k ≡ []
 none-recorded k = ap (λ (d : List ℕ). recordAt d k) (section-none _ _) ∙ section-none _ _
 
 pub routes-none : (p : Params) (k : ℕ) → routes p [] k ≡ false

@@ -8,10 +8,11 @@ use Rattle.fields.specs.Fields.{fieldAt}
 use Rattle.params.specs.declared.params.Params.{Params}
 use Rattle.state.specs.State.{State, paramsIn}
 use Rattle.voice_records.specs.Record.{recordUsed, waveRecord}
+use Rattle.voices.specs.Voices.{voiceRecord}
 use Rattle.state_voices.specs.StateVoices.{voiceIn}
 use Rattle.render.specs.Render.{renderOf}
 use Rattle.alike.specs.Reads.{Span, span, voiceReads}
-use Rattle.update_alike.specs.Routes.{voiceRecord, routes}
+use Rattle.update_alike.specs.Routes.{routes}
 use Rattle.secrecy.specs.Sessions.{Call, Shape, updates, renders, shape, after, succeeds}
 
 -- ---- spans of bytes

@@ -11,8 +11,8 @@ use lib.ListN.{length, drop, length-drop, length-map}
 use Rattle.ranges.specs.Ranges.{Range}
 use Rattle.ranges.specs.Questions.{laidOf, nearOf}
 use Rattle.params.specs.declared.params.Params.{Params}
-use Rattle.state.specs.State.{State}
-use Rattle.whole.specs.Whole.{wholeOf, whole-is}
+use Rattle.state.specs.State.{State, paramsIn}
+use Rattle.whole.specs.Whole.{Whole, wholeOf, whole-is}
 use Rattle.calls.specs.Sections.{wideIn, mostRenders, sectionCall}
 use Rattle.renders.proofs.Sections.{numberBy, section-number}
 use Rattle.secrecy.specs.Sessions.{Call, shape, stateAt}
@@ -49,6 +49,17 @@ if-shapes : (t : Bool) (cs cs′ : List Call) → map shape cs ≡ map shape cs�
 if-shapes true cs cs′ e = e
 if-shapes false cs cs′ e = refl
 
+-- a section's questions are answered by what is shared, where both states are whole and have the same parameters
+pub section-answers : {a b : State} → Whole a → Whole b → paramsIn a ≡ paramsIn b → (count : ℕ) (rs : List Range) (m m′ : List ℕ)
+    (frames frames′ : List Float) → length m ≡ length m′ → length frames ≡ length frames′
+    → sectionCall a count rs m frames .number ≡ sectionCall b count rs m′ frames′ .number
+section-answers {a} {b} wa wb params count rs m m′ frames frames′ long wide =
+    let whole : wholeOf a ≡ wholeOf b = whole-is a wa ∙ sym (whole-is b wb) in
+    section-number a count rs m frames
+    ∙ (λ i. numberBy (whole i) (laidOf (long i) rs) (nearOf rs) (leb count mostRenders)
+    (leb (count * (2 * params i .«sample_count»)) (wide i)))
+    ∙ sym (section-number b count rs m′ frames′)
+
 module _ {p : Params} {a b : State} (h : Both p None a b) where
   -- what two lists of calls leave, and so what two items leave
   left-both : (cs cs′ : List Call) → map shape cs ≡ map shape cs′ → Both p None (leftBy a cs) (leftBy b cs′)
@@ -59,17 +70,11 @@ module _ {p : Params} {a b : State} (h : Both p None a b) where
       subst (λ (u : State). Both p None u (afterItem b x′)) (item-same a x .state)
       (subst (Both p None (leftBy a (callsIn a x))) (item-same b x′ .state) (left-both (callsIn a x) (callsIn b x′) e))
 
-  -- a section: its questions are answered by what is shared, and both states are whole
+  -- a section
   module _ (count : ℕ) (rs : List Range) (m m′ : List ℕ) (frames frames′ : List Float) (long : length m ≡ length m′)
       (wide : length frames ≡ length frames′) where
     number-same : sectionCall a count rs m frames .number ≡ sectionCall b count rs m′ frames′ .number
-    number-same =
-        let whole : wholeOf a ≡ wholeOf b = whole-is a (h .left) ∙ sym (whole-is b (h .right)) in
-        let params = params-same (h .alike) in
-        section-number a count rs m frames
-        ∙ (λ i. numberBy (whole i) (laidOf (long i) rs) (nearOf rs) (leb count mostRenders)
-        (leb (count * (2 * params i .«sample_count»)) (wide i)))
-        ∙ sym (section-number b count rs m′ frames′)
+    number-same = section-answers (h .left) (h .right) (params-same (h .alike)) count rs m m′ frames frames′ long wide
 
     section-shapes : map shape (callsIn a (section count rs m frames)) ≡ map shape (callsIn b (section count rs m′ frames′))
     section-shapes =

@@ -8,6 +8,7 @@ use lib.ListN.{length}
 use Rattle.rows.specs.Rows.{part}
 use Rattle.rows.specs.Folds.{RowStep, upTo}
 use Rattle.params.specs.declared.params.Params.{Params}
+use Rattle.params.specs.Sections.{voicesSection}
 use Rattle.params.specs.Sizes.{revisionOf}
 use Rattle.state.specs.State.{State, Sized}
 use Rattle.voice.specs.Sound.{silentSound}
@@ -17,7 +18,7 @@ use Rattle.voices.specs.RowLaws.{left-zero, done-zero}
 use Rattle.voices.specs.Own.{renews, contextsRow, historyRow, contexts-step, history-step}
 use Rattle.updates.specs.Update.{withResources, voiceRowsIn, withVoices, afterVoices, changed, updated}
 use Rattle.alike.specs.Alike.{Alike}
-use Rattle.update_alike.specs.Found.{voicesSection, rowsBefore}
+use Rattle.update_alike.specs.Found.{rowsBefore}
 use Rattle.update_alike.specs.Position.{Position, position, changed-same}
 
 -- row k of a list in which each row is made silent or left

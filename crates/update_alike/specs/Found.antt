@@ -1,19 +1,12 @@
--- What an update's voices are made of: their section of the input, and their rows once the channel resources are stored. Definitions only.
+-- The rows that an update's voices are made of: those of the state once the channel resources are stored. Definitions only.
 use mathlib.Core.List.{List}
 use Prim.Native.Nat.{ℕ, _*_}
 use Rattle.rows.specs.Rows.{part}
-use Rattle.fields.specs.Fields.{sectionOf}
 use Rattle.params.specs.declared.params.Params.{Params}
-use Rattle.params.specs.Sections.{sectionsOf}
+use Rattle.params.specs.Sections.{resourcesSection}
 use Rattle.state.specs.State.{State}
 use Rattle.voices.specs.Voices.{VoiceRows, rowsOf}
 use Rattle.updates.specs.Update.{withResources}
-
-abbrev pub voicesSection : List ℕ → List ℕ
-voicesSection input = sectionOf input (sectionsOf input .«voices_at») (sectionsOf input .«voices_size»)
-
-abbrev pub resourcesSection : List ℕ → List ℕ
-resourcesSection input = sectionOf input (sectionsOf input .«resources_at») (sectionsOf input .«resources_size»)
 
 -- the rows of n voices
 abbrev pub rowsIn : ℕ → State → VoiceRows

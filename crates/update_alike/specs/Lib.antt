@@ -4,3 +4,4 @@ pub mod Alike
 pub mod Routes
 pub mod Rows
 pub mod Live
+pub mod VoiceAfter

@@ -13,14 +13,14 @@ use Rattle.rows.specs.Rows.{part, length-part, length-put}
 use Rattle.rows.specs.Folds.{upTo}
 use Rattle.params.specs.declared.params.Params.{Params}
 use Rattle.params.specs.declared.sections.Sections.{Sections}
-use Rattle.params.specs.Sections.{sectionsOf}
+use Rattle.params.specs.Sections.{sectionsOf, voicesSection}
 use Rattle.params.specs.Sizes.{Allowed, revisionOf}
 use Rattle.state.specs.State.{State, Sized, mixWords, sinkWords, listWords}
 use Rattle.voice.specs.declared.Voice.{Voice}
 use Rattle.voice.specs.Voice.{hasDestination}
 use Rattle.voice_rows.specs.VoiceRow.{voiceOf, wordsOf, headOf}
 use Rattle.voice_records.specs.Record.{recordUsed, filled, recorded}
-use Rattle.voices.specs.Voices.{VoiceRows, voiceStep, voicesOf}
+use Rattle.voices.specs.Voices.{VoiceRows, voiceRecord, voiceStep, voicesOf}
 use Rattle.voices.specs.RowLaws.{done-zero, length-zero}
 use Rattle.voices.specs.Own.{wordsRowBy, stepVoice, wordsRow, words-step}
 use Rattle.updates.specs.Update.{Desk, withLists, withMixes, withSinks, afterDesk}
@@ -28,9 +28,9 @@ use Rattle.updates.specs.Update.{withResources, voiceRowsIn, withVoices, afterV
 use Rattle.state_voices.specs.StateVoices.{voiceOn, voiceIn}
 use Rattle.row_trips.specs.Marks.{flag-again}
 use Rattle.alike.specs.Alike.{live}
-use Rattle.update_alike.specs.Found.{voicesSection, rowsBefore}
-use Rattle.update_alike.specs.Routes.{voiceRecord, routes}
-use Rattle.update_alike.specs.Rows.{row-among, put-behind}
+use Rattle.update_alike.specs.Found.{rowsBefore}
+use Rattle.update_alike.specs.Routes.{routes}
+use Rattle.update_alike.specs.Rows.{row-among, puts-behind}
 
 -- ---- the row that an update leaves
 
@@ -48,14 +48,12 @@ row-live false v row l f = unused-live row l f v
 
 -- ---- where it stands in the state
 
--- the splitters, mixes and sinks leave what stands before them
+-- the splitters, mixes and sinks leave the words that stand before theirs
 desk-row : (p : Params) (s : Sections) (input : List ℕ) (k : Desk) (w b : ℕ) → b + w ≤ mixWords p → b + w ≤ length (k .words)
     → part w b (afterDesk p s input k .words) ≡ part w b (k .words)
 unfolding afterDesk withSinks withMixes withLists
 desk-row p s input k w b h l =
-    put-behind w b (k .words) _ (sinkWords p) _ (omega arith)
-    (put-behind w b (k .words) _ (mixWords p) _ h
-    (put-behind w b (k .words) (k .words) (listWords p) _ (omega arith) (record { row = refl; inside = l }))) .row
+    puts-behind w b (k .words) (listWords p) (mixWords p) (sinkWords p) _ _ _ (omega arith) h (omega arith) l
 
 module _ (p : Params) (input : List ℕ) {st : State} (z : Sized p st) (k : ℕ) (h : k < p .voices) where
   -- the voices' rows after m steps
@@ -63,7 +61,7 @@ module _ (p : Params) (input : List ℕ) {st : State} (z : Sized p st) (k : ℕ)
   after m = upTo (voiceStep (revisionOf p) (p .voices) (voicesSection input)) m (rowsBefore p input st)
 
   -- the words of voice k after the update are those that step k put
-  words-row : part 58 (10 + k * 58) (changed p input st .words) ≡ wordsRow (revisionOf p) (p .voices) (voicesSection input) k (after k)
+  pub words-row : part 58 (10 + k * 58) (changed p input st .words) ≡ wordsRow (revisionOf p) (p .voices) (voicesSection input) k (after k)
   unfolding changed afterVoices withVoices withResources voiceRowsIn voicesOf
   words-row =
       let n = p .voices in

@@ -8,14 +8,14 @@ use lib.ListN.{set}
 use Rattle.rows.specs.Rows.{part, put}
 use Rattle.rows.specs.Folds.{upTo}
 use Rattle.params.specs.declared.params.Params.{Params}
-use Rattle.params.specs.Sections.{sectionsOf}
+use Rattle.params.specs.Sections.{sectionsOf, voicesSection, resourcesSection}
 use Rattle.state.specs.State.{State, resourceFloats}
 use Rattle.desk_updates.specs.DeskUpdate.{resourcesAt}
 use Rattle.voice_rows.specs.VoiceRow.{wordsOf, longsOf, floatsOf}
 use Rattle.voice_records.specs.Record.{recordUsed}
 use Rattle.voices.specs.Voices.{VoiceRows, recordAt, recordedAt, recordedRows, unusedRows, stepBy, voiceStep, voicesOf}
 use Rattle.updates.specs.Update.{desk, withResources, voiceRowsIn, withVoices, afterVoices, afterDesk, changed, updated}
-use Rattle.update_alike.specs.Found.{voicesSection, resourcesSection, rowsIn}
+use Rattle.update_alike.specs.Found.{rowsIn}
 
 -- all of a state but its sound
 pub record Position : Type 0 where

@@ -2,17 +2,12 @@
 use mathlib.Core.Bool.{Bool, _&&_}
 use mathlib.Core.List.{List}
 use Prim.Native.Nat.{ℕ}
-use Rattle.fields.specs.Fields.{fieldAt, sectionOf}
+use Rattle.fields.specs.Fields.{fieldAt}
 use Rattle.params.specs.declared.params.Params.{Params}
-use Rattle.params.specs.Sections.{sectionsOf}
 use Rattle.params.specs.Sizes.{revisionOf}
 use Rattle.voice.specs.Voice.{hasDestination}
 use Rattle.voice_records.specs.Record.{recordUsed, splitterOf}
-use Rattle.voices.specs.Voices.{recordAt}
-
--- the record of voice k in an update's input; empty where it is not there
-abbrev pub voiceRecord : List ℕ → ℕ → List ℕ
-voiceRecord input k = recordAt (sectionOf input (sectionsOf input .«voices_at») (sectionsOf input .«voices_size»)) k
+use Rattle.voices.specs.Voices.{voiceRecord}
 
 -- a record routes its voice: it is in use, and its mix is not 0x7fffffff or its splitter is not 0xffffffff; below revision 2 every splitter counts as that
 unfoldable pub routes : Params → List ℕ → ℕ → Bool

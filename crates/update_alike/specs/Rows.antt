@@ -1,5 +1,5 @@
 -- A row of a list in which elements are put: one that is among them, and one that stands before them. Assumes nothing.
-use mathlib.Core.Path.{_≡_, ap, sym, _∙_}
+use mathlib.Core.Path.{_≡_, refl, ap, sym, _∙_}
 use mathlib.Core.List.{List, _++_, append-assoc}
 use Prim.Native.Nat.{ℕ, _+_, _≤_}
 use native.Mathlib.Omega.{arith}
@@ -50,3 +50,9 @@ module _ {ℓ} {A : Type ℓ} where
               ∙ k .row;
           inside = rw (put-apart, length-append) (omega (arith, fits));
         }
+
+    -- where three are put behind it, a row stays
+    pub puts-behind : (x y z : ℕ) (p q r : List A) → b + w ≤ x → b + w ≤ y → b + w ≤ z → b + w ≤ length s
+        → part w b (put (put (put s x p) y q) z r) ≡ part w b s
+    puts-behind x y z p q r hx hy hz l =
+        put-behind _ z r hz (put-behind _ y q hy (put-behind s x p hx (record { row = refl; inside = l }))) .row

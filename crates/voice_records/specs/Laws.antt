@@ -16,7 +16,7 @@ channels-least n = omega arith
 channels-most : (n : ℕ) → channelsOf n ≤ 6
 channels-most n = omega arith
 
-id-below : (count : ℕ) (p : List ℕ) (c : ℕ) → 0 < count → idAt count p c < count
+pub id-below : (count : ℕ) (p : List ℕ) (c : ℕ) → 0 < count → idAt count p c < count
 unfolding idAt channelId
 id-below count p c h = omega arith
 

@@ -64,6 +64,10 @@ renewed false v = v
 abbrev pub channelsOf : ℕ → ℕ
 channelsOf n = max 1 (min n 6)
 
+-- the channels that the voice plays
+abbrev pub recordChannels : List ℕ → ℕ
+recordChannels p = channelsOf (fieldAt 4 p 0x18)
+
 -- a channel resource: of those past the last, the last
 unfoldable pub channelId : ℕ → ℕ → ℕ
 unfolding positive
@@ -128,7 +132,7 @@ filled revision count p v = record {
   play = setPlay (v .play) (fieldAt 1 p 0x0a);
   format = fieldAt 1 p 0x0b;
   «sample_rate» = fieldAt 4 p 0x0c;
-  channels = channelsOf (fieldAt 4 p 0x18);
+  channels = recordChannels p;
   pitch = ofBits binary32 (fieldAt 4 p 0x1c);
   volume = ofBits binary32 (fieldAt 4 p 0x20);
   «previous_volume» = v .«previous_volume»;

@@ -2,11 +2,12 @@
 mod buffers;
 mod numbers;
 
+pub use numbers::id_at;
+pub use numbers::record_channels;
 ghost use mathlib.Core.Path.{_≡_};
 ghost use Rattle.voice_records.specs.Record.{recordUsed, recordNew, newVoice, renewed, filled, recorded};
 use crate::buffers::recorded_buffers;
 use crate::numbers::channel_ids;
-use crate::numbers::channels_of;
 use crate::numbers::decoding_of;
 use crate::numbers::flush_of;
 use crate::numbers::splitter_of;
@@ -96,7 +97,7 @@ fn fill(v: Voice, p: &[u8], revision: u32, channel_count: u32) -> Voice
     let play = voice::set_play(was, byte_at(p, 0x0a));
     let format = byte_at(p, 0x0b) as u32;
     let sample_rate = u32_at(p, 0x0c);
-    let channels = channels_of(u32_at(p, 0x18));
+    let channels = record_channels(p);
     let pitch = f32_at(p, 0x1c);
     let volume = f32_at(p, 0x20);
     let queued = u32_at(p, 0x3c);

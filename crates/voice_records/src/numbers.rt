@@ -1,13 +1,13 @@
 // Numbers of a voice's record that are not taken as they stand.
 ghost use mathlib.Core.Path.{_≡_};
 ghost use Prim.Native.Nat.{_<_};
-ghost use Rattle.voice_records.specs.Record.{channelsOf, channelId, idAt, idsOf, splitterOf, flushOf, decodingOf};
+ghost use Rattle.voice_records.specs.Record.{channelsOf, recordChannels, channelId, idAt, idsOf, splitterOf, flushOf, decodingOf};
 use fields::byte_at;
 use fields::u16_at;
 use fields::u32_at;
 
 // 1 to 6 channels.
-pub fn channels_of(n: u32) -> u32
+fn channels_of(n: u32) -> u32
     ensures { λ r. ⌜ r ≡ channelsOf n ⌝ }
 {
     if n < 1 {
@@ -17,6 +17,13 @@ pub fn channels_of(n: u32) -> u32
         return 6;
     }
     n
+}
+
+// The channels that a voice plays, of those that its record says.
+pub fn record_channels(p: &[u8]) -> u32
+    ensures { λ r. ⌜ r ≡ recordChannels (now (p .entry)) ⌝ }
+{
+    channels_of(u32_at(p, 0x18))
 }
 
 // A channel resource: of those past the last, the last.
@@ -31,7 +38,7 @@ fn channel_id(count: u32, v: u32) -> u32
 }
 
 // The resource of channel c.
-fn id_at(p: &[u8], count: u32, c: usize) -> u32
+pub fn id_at(p: &[u8], count: u32, c: usize) -> u32
     requires { ⌜ c < 6 ⌝ }
     ensures { λ r. ⌜ r ≡ idAt count (now (p .entry)) c ⌝ }
 {

@@ -9,6 +9,7 @@ use lib.ListN.{length, set}
 use Rattle.rows.specs.Rows.{part, put}
 use Rattle.rows.specs.Folds.{upTo}
 use Rattle.fields.specs.Fields.{sectionOf}
+use Rattle.params.specs.Sections.{voicesSection}
 use Rattle.voice.specs.declared.Voice.{Voice}
 use Rattle.voice.specs.Sound.{silentSound}
 use Rattle.voice_rows.specs.VoiceRow.{voiceOf, wordsOf, longsOf, floatsOf}
@@ -57,6 +58,10 @@ recordedAt revision n p k words longs floats = recorded revision n p (voiceAt k 
 -- the record of voice k; empty where it is not whole
 abbrev pub recordAt : List ℕ → ℕ → List ℕ
 recordAt d k = sectionOf d (k * 0x170) 0x170
+
+-- the same in an update's input; empty where the voices' section is
+abbrev pub voiceRecord : List ℕ → ℕ → List ℕ
+voiceRecord input k = recordAt (voicesSection input) k
 
 -- a row put where the voice is new
 abbrev pub putNew : {A : Type 0} → Bool → List A → ℕ → List A → List A

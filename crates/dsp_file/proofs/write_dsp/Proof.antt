@@ -65,8 +65,8 @@ returns-3 c =
 put-header-requires : tie.Need-put-header-requires
 put-header-requires c κs = omega (arith, room (c .before))
 
-put-data-requires : tie.Need-put-data-requires
-put-data-requires c κs = omega (arith, room (c .before .before .before .before .before))
+copy-in-u8-requires : tie.Need-copy-in-u8-requires
+copy-in-u8-requires c κs = omega (arith, room (c .before .before .before .before .before))
 
 add-size : tie.Need-add-size
 add-size c = search needs
@@ -82,7 +82,7 @@ returns-4 c =
     let held = roomy .before .before in
     let a = held .before .before .before .before .before .before .args in
     let file = laid-next (laid-first 0 (headerBytes (a .header)) headerSize (length-header (a .header)) (header-put .put-header .ensures))
-    (a .«data» .now) (length (a .«data» .now)) refl (omega (arith, room roomy)) (data-put .put-data .ensures) in
+    (a .«data» .now) (length (a .«data» .now)) refl (omega (arith, room roomy)) (data-put .copy-in-u8 .ensures) in
     ap (writeLeft 0 (headerSize + length (a .«data» .now))) (file .done)
     ∙ sym (write-is _ _ _ (plain-yes (held .before .before)) (sym (held .before .holds-samples .ensures) ∙ holds-yes held)
     (sym (roomy .before .has-room .ensures) ∙ room-yes roomy))
@@ -98,7 +98,7 @@ write-dsp-spec =
     has-room-requires
     returns-3
     put-header-requires
-    put-data-requires
+    copy-in-u8-requires
     add-size
     same-length
     returns-4)

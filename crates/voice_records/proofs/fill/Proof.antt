@@ -3,7 +3,7 @@ use Prim.Native.Nat.{ℕ, _%_}
 use mathlib.Core.Bool.{true}
 use mathlib.Core.Path.{ap, _∙_}
 use Rattle.voice.specs.Play.{setPlay}
-use Rattle.voice_records.specs.Record.{channelsOf, recordedBuffers, filled}
+use Rattle.voice_records.specs.Record.{recordedBuffers, filled}
 use borrow.Author.Needs.{needs}
 use Rattle.voice_records.proofs.fill.Statement.{statement}
 use Rattle.voice_records.proofs.fill.Tie as tie
@@ -23,11 +23,8 @@ cast-format c = search needs
 u32-at-requires : tie.Need-u32-at-requires
 u32-at-requires c κs = search needs
 
-u32-at-requires-2 : tie.Need-u32-at-requires-2
-u32-at-requires-2 c κs = search needs
-
-channels-of-requires : tie.Need-channels-of-requires
-channels-of-requires c κs = search needs
+record-channels-requires : tie.Need-record-channels-requires
+record-channels-requires c κs = search needs
 
 f32-at-requires : tie.Need-f32-at-requires
 f32-at-requires c κs = search needs
@@ -35,17 +32,17 @@ f32-at-requires c κs = search needs
 f32-at-requires-2 : tie.Need-f32-at-requires-2
 f32-at-requires-2 c κs = search needs
 
+u32-at-requires-2 : tie.Need-u32-at-requires-2
+u32-at-requires-2 c κs = search needs
+
 u32-at-requires-3 : tie.Need-u32-at-requires-3
 u32-at-requires-3 c κs = search needs
-
-u32-at-requires-4 : tie.Need-u32-at-requires-4
-u32-at-requires-4 c κs = search needs
 
 u64-at-requires : tie.Need-u64-at-requires
 u64-at-requires c κs = search needs
 
-u32-at-requires-5 : tie.Need-u32-at-requires-5
-u32-at-requires-5 c κs = search needs
+u32-at-requires-4 : tie.Need-u32-at-requires-4
+u32-at-requires-4 c κs = search needs
 
 splitter-of-requires : tie.Need-splitter-of-requires
 splitter-of-requires c κs = search needs
@@ -77,15 +74,13 @@ returns c =
     let volume = queued .before in
     let pitch = volume .before in
     let channels = pitch .before in
-    let count = channels .before in
-    let rate = count .before in
+    let rate = channels .before in
     let format = rate .before in
     let play = format .before in
     let asked = play .before in
     let a = asked .before .before .args in
     let v = a .v in
     let plays = play .set-play .ensures ∙ ap (setPlay (v .play)) (asked .byte-at .ensures) in
-    let many = channels .channels-of .ensures ∙ ap channelsOf (count .u32-at2 .ensures) in
     let waves = buffers .recorded-buffers .ensures ∙ ap (λ (f : ℕ). recordedBuffers f (a .p .now) (v .buffers)) (format .byte-at2 .ensures) in
     λ i. record {
       «in_use» = true;
@@ -93,15 +88,15 @@ returns c =
       play = plays i;
       format = format .byte-at2 .ensures i;
       «sample_rate» = rate .u32-at .ensures i;
-      channels = many i;
+      channels = channels .record-channels .ensures i;
       pitch = pitch .f32-at .ensures i;
       volume = volume .f32-at2 .ensures i;
       «previous_volume» = v .«previous_volume»;
-      queued = queued .u32-at3 .ensures i;
-      «base_index» = base .u32-at4 .ensures i % 4;
+      queued = queued .u32-at2 .ensures i;
+      «base_index» = base .u32-at3 .ensures i % 4;
       flush = flush .flush-of .ensures i;
       decoding = decoding .decoding-of .ensures i;
-      «mix_id» = mix .u32-at5 .ensures i;
+      «mix_id» = mix .u32-at4 .ensures i;
       «splitter_id» = splitter .splitter-of .ensures i;
       «channel_ids» = ids .channel-ids .ensures i;
       «data_source» = source .u64-at .ensures i;
@@ -124,14 +119,13 @@ fill-spec =
     byte-at-requires-2
     cast-format
     u32-at-requires
-    u32-at-requires-2
-    channels-of-requires
+    record-channels-requires
     f32-at-requires
     f32-at-requires-2
+    u32-at-requires-2
     u32-at-requires-3
-    u32-at-requires-4
     u64-at-requires
-    u32-at-requires-5
+    u32-at-requires-4
     splitter-of-requires
     channel-ids-requires
     flush-of-requires

@@ -1,0 +1,13 @@
+pub mod Header
+pub mod Laid
+pub mod Behind
+pub mod Status
+pub mod Steps
+pub mod Updates
+pub mod Sections
+pub mod Items
+pub mod Merges
+pub mod Unused
+pub mod Plays
+pub mod Rounds
+pub mod Examples

@@ -1,0 +1,4 @@
+pub mod Own
+pub mod VoiceStatus
+pub mod Told
+pub mod Plays
