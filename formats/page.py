@@ -32,6 +32,21 @@ of 16 bytes from their beginning; elsewhere they have no byte. The mixes begin t
 has `played` and `consumed` of each voice as they stand. Pools read 0 and effects 4, as where their sections are missing; the rest of
 the reply is as ever. An input of one byte is an update like any other: its sections are empty, and every voice goes out of use.
 
+## A merged block
+
+`jeqlluna_merge` makes one input of a title's and a click track's. It has these parts, one behind the other:
+
+| part | bytes | from |
+|---|---|---|
+| `update_header` | 0x40 | the title, but for `voices_size`, 0x170 × `voices`, and `channel_resources_size`, 0x70 × `voices` |
+| `behaviour`, `pool` | as many as this header says | the title |
+| `channel_resource` | 0x70 × `voices` | each from the click where one of its voices in use names it, else from the title |
+| `voice` | 0x170 × `voices` | each from the block in which it is in use; zeros where it is in use in neither |
+| `effect` and all that follows | what is left | the title, from its effects on, by the sizes of its own header |
+
+Bytes that a block lacks are 0; of a voice that is not whole nothing is taken. Other fields of the header, those that are not read among
+them, are the title's.
+
 ## A reply
 
 Its length is that of all sections below; the effects share what the expected size leaves beyond the others, as many whole bytes for

@@ -25,9 +25,9 @@
 extern "C" {
 #endif
 
-#define JEQLLUNA_VERSION "0.8.0"
+#define JEQLLUNA_VERSION "0.9.0"
 #define JEQLLUNA_VERSION_MAJOR 0
-#define JEQLLUNA_VERSION_MINOR 8
+#define JEQLLUNA_VERSION_MINOR 9
 #define JEQLLUNA_VERSION_PATCH 0
 
 /* The bytes of stack that a call takes at most; measured, and held to by bindings/stack. */
@@ -49,7 +49,10 @@ enum {
     JEQLLUNA_DSP_LENGTH = 12, /* DSP file: the data is too short for its samples, or the output for the file */
     JEQLLUNA_RANGES = 13, /* more than 16 ranges; a part outside memory; or a base below the end of the range before */
     JEQLLUNA_COUNT = 14,  /* a section of more than 1,024 renders */
-    JEQLLUNA_ENCODED = 15 /* ADPCM: the output is too short for the encoded samples */
+    JEQLLUNA_ENCODED = 15, /* ADPCM: the output is too short for the encoded samples */
+    JEQLLUNA_VOICES = 16,   /* merge: a voice is in use in both blocks */
+    JEQLLUNA_CHANNELS = 17, /* merge: a channel is named from both blocks */
+    JEQLLUNA_BLOCK = 18     /* merge: the output is too short for the merged block */
 };
 
 /* What a number says, in words. Never NULL. */
@@ -85,6 +88,12 @@ static inline const char *jeqlluna_refusal(uint32_t number) {
         return "a section has more than 1,024 renders";
     case JEQLLUNA_ENCODED:
         return "the output of an ADPCM encode is too short for the samples";
+    case JEQLLUNA_VOICES:
+        return "a voice is in use in both blocks";
+    case JEQLLUNA_CHANNELS:
+        return "a channel is named from both blocks";
+    case JEQLLUNA_BLOCK:
+        return "the output of a merge is too short for the block";
     default:
         return "an unknown number";
     }
@@ -160,6 +169,11 @@ typedef struct {
     uint32_t number;
     size_t size; /* bytes written: 96 + data_len */
 } JeqllunaDspWritten;
+
+typedef struct {
+    uint32_t number;
+    size_t size; /* bytes of the merged block */
+} JeqllunaMerged;
 
 /* How long the five slices of a renderer must be. Refusals: 1, 2. */
 JeqllunaLengths jeqlluna_lengths(const uint8_t *parameters, size_t parameters_len);
@@ -237,6 +251,21 @@ JeqllunaDspRead jeqlluna_read_dsp(const uint8_t *file, size_t file_len);
 /* Writes a DSP file to the front of output: the header with 22 bytes of 0 for padding, and all of the data. Bytes beyond them stay. A file
  * that was read and is written again has the same bytes. Refusals: 11 (of format and gain alone), 12. */
 JeqllunaDspWritten jeqlluna_write_dsp(JeqllunaDsp header, const uint8_t *data, size_t data_len, uint8_t *output, size_t output_len);
+
+/* Makes one update block of a title's and a click track's, both inputs of jeqlluna_update for a renderer with these parameters, of any
+ * length; no renderer is needed. The block goes to the front of output; bytes beyond it stay. It has, one behind the other:
+ * - the title's header, 0x40 bytes, but for two sizes: voices * 0x170 at 0x0c and voices * 0x70 at 0x10;
+ * - the title's behaviour section and pools, as long as this header says;
+ * - voices channel resources: each from the click's block where a voice of that names it, else from the title's;
+ * - voices records: the one that is in use, the title's or the click's, or zeros; one that is cut short is none;
+ * - every byte of the title's block from its effects on.
+ * Bytes that a block lacks are 0. A voice in use names the numbers of its first channels, as many as it plays, as an update reads them.
+ * From one renderer, and before the same renders, each voice of the merged block plays as in the block that it came from, as far as its
+ * position goes; one that is in use in neither is put out of use. title_len + 0x1e0 * voices bytes of output are enough where the title's
+ * header, behaviour section and pools lie inside it. Refusals, in this sequence: 2, 16, 17, 18. */
+JeqllunaMerged jeqlluna_merge(
+    const uint8_t *parameters, size_t parameters_len, const uint8_t *title, size_t title_len, const uint8_t *click, size_t click_len,
+    uint8_t *output, size_t output_len);
 
 #ifdef __cplusplus
 }

@@ -8,15 +8,18 @@
 #include <xmmintrin.h>
 
 #include "dsp.h"
+#include "jeqlluna_title.h"
 #include "ranges.h"
 #include "region.h"
 #include "title.h"
 
 #define REPLY 20000 /* the longest reply for which there is room */
 #define RENDERS 4   /* the longest section for which there is room */
+#define EACH (JEQLLUNA_CHANNEL_RESOURCE_SIZE + JEQLLUNA_VOICE_SIZE)
 
 static long calls = 0;
 static long answers[JEQLLUNA_COUNT + 1]; /* of renders and sections in any ranges, by number */
+static long merges[JEQLLUNA_BLOCK + 1];  /* by number */
 
 static void hold(const char *what, int same) {
     calls++;
@@ -188,13 +191,50 @@ static void dsp(int at_end, uint64_t *seed) {
     release(out);
 }
 
+/* A title's block, and a click's, of which either may be damaged: every second voice is the click's, one in six times the first too, or the
+ * click names all channels by one number. They are merged to an output that is just long enough, a byte too short, or longer. */
+static void merge(const Counts *c, const Sound *s, int at_end, uint64_t *seed) {
+    size_t most = title_size(c), enough = most + c->voices * (size_t)EACH, sizes[2], n, k, kind = below(seed, 6);
+    size_t voices = JEQLLUNA_UPDATE_HEADER_SIZE + (4 * c->voices + c->effects) * (size_t)JEQLLUNA_POOL_SIZE;
+    uint8_t p[JEQLLUNA_PARAMETERS], *blocks[2], *expected = (uint8_t *)room(enough), *output;
+    Region by = region(sizeof p), title = region(most), click = region(most), out = region(enough);
+    JeqllunaMerged a, b;
+    uint32_t v;
+    put_parameters(p, c);
+    voices += c->voices * (size_t)JEQLLUNA_CHANNEL_RESOURCE_SIZE;
+    for (k = 0; k < 2; k++) {
+        blocks[k] = (uint8_t *)room(most);
+        put_title(blocks[k], c, s, 1, seed);
+        for (v = 0; v < c->voices; v++) {
+            uint8_t *record = blocks[k] + voices + v * (size_t)JEQLLUNA_VOICE_SIZE;
+            record[JEQLLUNA_VOICE_IN_USE] = v % 2 == k || (kind == 0 && v == 0);
+            put_u32(record + JEQLLUNA_VOICE_CHANNEL_RESOURCES, kind == 1 && k == 1 ? 0xffffffff : v);
+        }
+        sizes[k] = below(seed, 2) == 0 ? most : damage(blocks[k], most, seed);
+    }
+    b = jeqlluna_merge(p, sizeof p, blocks[0], sizes[0], blocks[1], sizes[1], expected, enough);
+    n = b.number != 0 ? enough : below(seed, 4) == 0 ? b.size - 1 : below(seed, 2) == 0 ? enough : b.size;
+    output = place(out, n, at_end);
+    memset(output, 0x5a, n);
+    memset(expected, 0x5a, enough);
+    a = jeqlluna_merge(
+        lend(by, p, sizeof p, at_end), sizeof p, lend(title, blocks[0], sizes[0], at_end), sizes[0],
+        lend(click, blocks[1], sizes[1], at_end), sizes[1], output, n);
+    hold("merge", b.number != 0 || a.number == (n < b.size ? (uint32_t)JEQLLUNA_BLOCK : 0u));
+    b = jeqlluna_merge(p, sizeof p, blocks[0], sizes[0], blocks[1], sizes[1], expected, n);
+    hold("merge", a.number == b.number && a.size == b.size && memcmp(output, expected, n) == 0);
+    merges[a.number]++;
+    release(by), release(title), release(click), release(out);
+    free(blocks[0]), free(blocks[1]), free(expected);
+}
+
 static void session(const Counts *c, int at_end, uint64_t seed) {
     static const int formats[] = {2, 5, 6, 3};
     uint8_t p[JEQLLUNA_PARAMETERS], bytes[MEMORY], *title = (uint8_t *)room(title_size(c));
     Region parameters = region(sizeof p), memory = region(MEMORY), held[5];
     Desk plain = open_desk(c), g = plain;
     Sound sound;
-    uint64_t recordings = seed;
+    uint64_t recordings = seed, blocks = seed;
     int k;
     sound.format = formats[below(&seed, 4)];
     sound.pitch = (float)below(&seed, 1700) / 100.0f;
@@ -230,6 +270,7 @@ static void session(const Counts *c, int at_end, uint64_t seed) {
         render(&g, &plain, c, memory, bytes, 0, at_end, &seed);
         if (k % 4 == 3) {
             render(&g, &plain, c, memory, bytes, 1, at_end, &seed);
+            merge(c, &sound, at_end, &blocks);
         }
         decode(at_end, &seed);
         encode(at_end, &recordings);
@@ -271,7 +312,12 @@ int main(int argc, char **argv) {
     if (sessions >= 40 && answers[JEQLLUNA_COUNT] == 0) {
         fail("no section in ranges is refused by 14");
     }
-    printf("%ld comparisons between guard pages; renders in ranges refused by 5, 7, 13, 14: %ld, %ld, %ld, %ld\n", calls,
+    if (sessions >= 40 && !(merges[0] > 0 && merges[JEQLLUNA_VOICES] > 0 && merges[JEQLLUNA_CHANNELS] > 0 && merges[JEQLLUNA_BLOCK] > 0)) {
+        fail("no merge succeeds, or is refused by 16, by 17 or by 18");
+    }
+    printf("%ld comparisons between guard pages; renders in ranges refused by 5, 7, 13, 14: %ld, %ld, %ld, %ld;", calls,
            answers[JEQLLUNA_MEMORY], answers[JEQLLUNA_FRAMES], answers[JEQLLUNA_RANGES], answers[JEQLLUNA_COUNT]);
+    printf(" merges answered 0, 16, 17, 18: %ld, %ld, %ld, %ld\n", merges[0], merges[JEQLLUNA_VOICES], merges[JEQLLUNA_CHANNELS],
+           merges[JEQLLUNA_BLOCK]);
     return 0;
 }

@@ -203,6 +203,26 @@ static void dsp(void) {
     hold("write of nothing", jeqlluna_write_dsp(s.header, NULL, 0, NULL, 0).number, JEQLLUNA_DSP_HEADER);
 }
 
+/* Merges: no parameters, no title, no click, no output. */
+static void merge(void) {
+    uint8_t p[JEQLLUNA_PARAMETERS], output[0x40], zeros[0x40] = {0};
+    JeqllunaMerged m;
+    put_parameters(p, &SMALL);
+    m = jeqlluna_merge(p, sizeof p, NULL, 0, NULL, 0, NULL, 0);
+    hold("merge without output", m.number, JEQLLUNA_BLOCK);
+    hold("merge without output", m.size, 0);
+    p[0x10] = 0;
+    memset(output, 0x5a, sizeof output);
+    m = jeqlluna_merge(p, sizeof p, NULL, 0, NULL, 0, output, sizeof output);
+    hold("merge without blocks", m.number, 0);
+    hold("merge without blocks", m.size, sizeof output);
+    hold("header", memcmp(output, zeros, sizeof output) == 0, 1);
+    hold("merge without a click", jeqlluna_merge(p, sizeof p, zeros, sizeof zeros, NULL, 0, output, sizeof output).size, sizeof output);
+    hold("merge without a title", jeqlluna_merge(p, sizeof p, NULL, 0, zeros, sizeof zeros, output, sizeof output).size, sizeof output);
+    hold("merge without parameters", jeqlluna_merge(NULL, 0, zeros, sizeof zeros, zeros, sizeof zeros, output, sizeof output).number, 0);
+    hold("merge of nothing", jeqlluna_merge(NULL, 0, NULL, 0, NULL, 0, NULL, 0).number, JEQLLUNA_BLOCK);
+}
+
 int main(void) {
     static const Counts nothing = {48000, 2, 0, 0, 0, 0, 0, 0, 0, 5};
     parameters();
@@ -215,6 +235,7 @@ int main(void) {
     adpcm();
     encode();
     dsp();
+    merge();
     printf("%d answers with NULL\n", calls);
     return 0;
 }

@@ -198,6 +198,42 @@ static void dsp_refused(void) {
     }
 }
 
+/* Merges: 2, 16, 17 and 18, each with all that come after it, and then alone. */
+static void merge_refused(void) {
+    static const uint32_t at[7] = {0x08, 0x0c, 0x10, 0x14, 0x18, 0x24, 0x28}, most[7] = {96, 31, 64, 8, 64, 32, 128};
+    const size_t size = 0x40 + 2 * 0x170, needed = 0x40 + 2 * (0x70 + 0x170);
+    uint8_t p[JEQLLUNA_PARAMETERS], title[0x40 + 2 * 0x170] = {0}, click[0x40 + 2 * 0x170] = {0}, output[0x40 + 2 * (0x70 + 0x170)];
+    JeqllunaMerged m;
+    size_t n, k;
+    memset(output, 0x5a, sizeof output);
+    put_parameters(p, &SMALL);
+    put_u32(p + 0x10, 2);
+    put_u32(title + 0x0c, 2 * 0x170);
+    put_u32(click + 0x0c, 2 * 0x170);
+    /* Voice 0 is in use in both, voice 1 in the click, and all name channel 0. */
+    title[0x40 + 9] = click[0x40 + 9] = click[0x40 + 0x170 + 9] = 1;
+    for (k = 0; k < 7; k++) {
+        uint8_t above[JEQLLUNA_PARAMETERS];
+        memcpy(above, p, sizeof p);
+        put_u32(above + at[k], most[k] + 1);
+        m = jeqlluna_merge(above, sizeof above, title, size, click, size, output, needed - 1);
+        expect("merge", m.number, JEQLLUNA_COUNTS, m.size != 0 || !marked(output, sizeof output));
+    }
+    put_u32(p + 0x04, 0); /* samples are not asked for */
+    m = jeqlluna_merge(p, sizeof p, title, size, click, size, output, needed - 1);
+    expect("merge", m.number, JEQLLUNA_VOICES, m.size != 0 || !marked(output, sizeof output));
+    click[0x40 + 9] = 0;
+    m = jeqlluna_merge(p, sizeof p, title, size, click, size, output, needed - 1);
+    expect("merge", m.number, JEQLLUNA_CHANNELS, m.size != 0 || !marked(output, sizeof output));
+    click[0x40 + 0x170 + 0x140] = 1;
+    for (n = 0; n < needed; n++) {
+        m = jeqlluna_merge(p, sizeof p, title, size, click, size, output, n);
+        expect("merge", m.number, JEQLLUNA_BLOCK, m.size != 0 || !marked(output, sizeof output));
+    }
+    m = jeqlluna_merge(p, sizeof p, title, size, click, size, output, needed);
+    expect("merge", m.number, JEQLLUNA_OK, m.size != needed);
+}
+
 int main(void) {
     counts_refused();
     state_refused();
@@ -205,6 +241,7 @@ int main(void) {
     adpcm_refused();
     encode_refused();
     dsp_refused();
+    merge_refused();
     printf("%d answers by number\n", answers);
     return 0;
 }

@@ -19,9 +19,9 @@
 
 #define RENDERS 2 /* of a section */
 
-enum { LENGTHS, REPLY_LENGTH, OPEN, UPDATE, RENDER, SECTION, ORDER, DECODE, ENCODE, READ_DSP, WRITE_DSP };
+enum { LENGTHS, REPLY_LENGTH, OPEN, UPDATE, RENDER, SECTION, ORDER, DECODE, MERGE, ENCODE, READ_DSP, WRITE_DSP };
 static const char *const names[] = {
-    "lengths", "reply length", "open", "update", "render", "section", "mix order", "decode", "encode", "read DSP", "write DSP"};
+    "lengths", "reply length", "open", "update", "render", "section", "mix order", "decode", "merge", "encode", "read DSP", "write DSP"};
 
 typedef struct {
     int call, cut; /* cut: whether the memory of a render or section is in ranges that touch */
@@ -34,7 +34,7 @@ typedef struct {
 
 static uint64_t *low; /* the lowest place of the stack */
 static int16_t samples[MEMORY / 2];
-static uint8_t memory[MEMORY], slice[MEMORY], reply[20000], parameters[JEQLLUNA_PARAMETERS];
+static uint8_t memory[MEMORY], slice[MEMORY], reply[20000], parameters[JEQLLUNA_PARAMETERS], block[200000];
 static uint64_t ranges[NUMBERS_MOST];
 static size_t numbers; /* of the ranges */
 static float frames[RENDERS * 512];
@@ -88,6 +88,11 @@ static void call(Work *w) {
         break;
     case DECODE:
         w->number = jeqlluna_decode_adpcm(memory, MEMORY, 0, 256, pairs, 16, context, frames, 512).number;
+        break;
+    case MERGE:
+        w->number = jeqlluna_merge(
+                        parameters, sizeof parameters, w->title, title_size(w->counts), memory, MEMORY, block, sizeof block)
+                        .number;
         break;
     case ENCODE:
         encode_call(w);
@@ -194,6 +199,8 @@ static void desk(const char *name, const Counts *c) {
     print(name, names[ORDER], measure(w, 1));
     w.call = DECODE;
     print(name, names[DECODE], measure(w, 1));
+    w.call = MERGE; /* with a click of any bytes, none of which is a record */
+    print(name, names[MERGE], measure(w, 1));
     close_desk(&d);
     free(title);
 }

@@ -1,5 +1,5 @@
-/* Eight threads, each with its own renderer, DSP files and encodes, all with the same sample memory, give the frames, replies, states,
- * files and bytes that each gives alone: threads [RENDERS]. Every fourth render is a section of two. */
+/* Eight threads, each with its own renderer, DSP files, encodes and merges, all with the same sample memory, give the frames, replies,
+ * states, files and bytes that each gives alone: threads [RENDERS]. Every fourth render is a section of two. */
 #ifndef _GNU_SOURCE
 #define _GNU_SOURCE 1
 #endif
@@ -48,6 +48,20 @@ static uint64_t encode(uint64_t s, uint64_t *seed) {
     return sum(sum(s, output, e.size), &e.error, sizeof e.error);
 }
 
+/* Goes on from a sum over the merged block of a title and a click of a few bytes, which has no voice: the title again. */
+static uint64_t merge(uint64_t s, const Counts *c, const uint8_t *title, uint8_t *output, uint64_t *seed) {
+    uint8_t p[JEQLLUNA_PARAMETERS], click[0x40];
+    size_t size = title_size(c);
+    JeqllunaMerged m;
+    put_parameters(p, c);
+    put_random(seed, click, sizeof click);
+    m = jeqlluna_merge(p, sizeof p, title, size, click, below(seed, sizeof click), output, size);
+    if (m.number != 0 || m.size != size || sum(1, title, size) != sum(1, output, size)) {
+        fail("merge: %s", jeqlluna_refusal(m.number));
+    }
+    return sum(s, output, m.size);
+}
+
 /* A session by its seed; the result sums up all that the calls gave. */
 static void *run(void *given) {
     static const int formats[] = {2, 5, 6};
@@ -57,7 +71,7 @@ static void *run(void *given) {
     Sound sound = {formats[w->seed % 3], 0.5f + (float)(w->seed % 7) / 4.0f, 0.75f};
     const uint64_t range[3] = {BASE, 0, MEMORY};
     size_t size = title_size(c), n = 2 * c->samples;
-    uint8_t *title = (uint8_t *)room(size), *reply = (uint8_t *)room(20000);
+    uint8_t *title = (uint8_t *)room(size), *both = (uint8_t *)room(size), *reply = (uint8_t *)room(20000);
     float *frames = (float *)room(2 * n * sizeof *frames);
     Desk d = open_desk(c);
     long k;
@@ -74,6 +88,7 @@ static void *run(void *given) {
                 fail("update: %s", jeqlluna_refusal(u.number));
             }
             s = sum(s, reply, u.size);
+            s = merge(s, c, title, both, &seed);
         }
         r = k % 4 == 3 ? desk_section(&d, 2, range, 3, memory, MEMORY, frames, 2 * n) : desk_render(&d, memory, MEMORY, frames, n);
         if (r.number != 0) {
@@ -86,7 +101,7 @@ static void *run(void *given) {
     }
     w->result = s ^ desk_sum(&d);
     close_desk(&d);
-    free(title), free(reply), free(frames);
+    free(title), free(both), free(reply), free(frames);
     return NULL;
 }
 

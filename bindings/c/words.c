@@ -6,7 +6,7 @@
 
 /* Whether a refusal has this number; 10 is the session program's. */
 static int is_refusal(uint32_t number) {
-    return number >= JEQLLUNA_SAMPLES && number <= JEQLLUNA_ENCODED && number != 10;
+    return number >= JEQLLUNA_SAMPLES && number <= JEQLLUNA_BLOCK && number != 10;
 }
 
 int main(void) {

@@ -1,11 +1,11 @@
 //! Bad input never ends a process: a million updates with random and hostile numbers, positions, renders with any ranges, sections of any
-//! count and DSP files in between, under a limit of 256 MB of memory.
+//! count, DSP files, encodes and merges in between, under a limit of 256 MB of memory.
 //!
 //!     cargo build --release --example hostile && prlimit --as=268435456 target/release/examples/hostile [UPDATES]
 //!
 //! It prints how many calls were answered how, and fails where the process is not limited, a refusal changes something, or a kind of answer
 //! never came.
-use jeqlluna::{AdpcmContext, PARAMETERS, Range, Refusal, Renderer, encode_adpcm, read_dsp, write_dsp};
+use jeqlluna::{AdpcmContext, PARAMETERS, Range, Refusal, Renderer, encode_adpcm, merge_bytes, read_dsp, write_dsp};
 use std::collections::BTreeMap;
 use std::process::ExitCode;
 
@@ -165,6 +165,27 @@ fn encodes(r: &mut Random, tally: &mut BTreeMap<(&'static str, u32), u64>) {
     count(tally, "encode", &encode_adpcm(samples, coefficients, &mut context, &mut output));
 }
 
+/// A block of voices alone, some of them in use, each on one of a few channels or on any number.
+fn voices(r: &mut Random) -> Vec<u8> {
+    let mut d = vec![0; 0x40 + 8 * 0x170];
+    put(&mut d, 0x0c, 8 * 0x170);
+    for at in (0x40..d.len()).step_by(0x170) {
+        d[at + 9] = u8::from(r.below(6) == 0);
+        put(&mut d, at + 0x140, if r.below(4) == 0 { r.number() } else { r.below(8) as u32 });
+    }
+    d
+}
+
+/// Merges an update with another, or two blocks of voices, for any parameters, to an output of any length.
+fn merges(r: &mut Random, update: &[u8], tally: &mut BTreeMap<(&'static str, u32), u64>) {
+    let (given, [title, click]) = (parameters(r), if r.below(2) == 0 { [update.to_vec(), input(r)] } else { [voices(r), voices(r)] });
+    let mut output = vec![0x5a; r.below(0x8000)];
+    let answer = merge_bytes(&given, &title, &click, &mut output);
+    count(tally, "merge", &answer);
+    let beyond = answer.unwrap_or(0);
+    assert!(output[beyond..].iter().all(|&b| b == 0x5a), "a byte beyond the block, or a refusal's");
+}
+
 /// Whether the process may take no more than it should.
 fn limited() -> bool {
     let limits = std::fs::read_to_string("/proc/self/limits").unwrap_or_default();
@@ -244,6 +265,9 @@ fn main() -> ExitCode {
             if r.below(16) == 0 {
                 encodes(r, &mut tally);
             }
+            if r.below(8) == 0 {
+                merges(r, &bytes, &mut tally);
+            }
             if r.below(4) == 0 {
                 looked += renders(r, &mut renderer, &memory, &mut tally);
             }
@@ -255,6 +279,7 @@ fn main() -> ExitCode {
     println!("{made} updates, the longest reply {longest} bytes; of the refused {looked} were looked at, and none had changed anything");
     let due = [
         ("encode", &[0, 15][..]),
+        ("merge", &[0, 2, 16, 17, 18]),
         ("open", &[0, 1, 2]),
         ("positions", &[0]),
         ("read_dsp", &[0, 11, 12]),

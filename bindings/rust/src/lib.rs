@@ -21,7 +21,8 @@
 //! Sample memory is one slice in up to 16 ranges, each a [`Range`]; [`Range::whole`] is all of it. [`Renderer::render_section`] makes many
 //! renders in one call.
 //!
-//! [`decode_adpcm`], [`encode_adpcm`], [`read_dsp`] and [`write_dsp`] need no renderer: ADPCM alone, and clips as DSP files.
+//! [`decode_adpcm`], [`encode_adpcm`], [`read_dsp`] and [`write_dsp`] need no renderer: ADPCM alone, and clips as DSP files. Nor does
+//! [`merge`](fn@merge): it makes one update of a title's and a click track's.
 //!
 //! # Memory
 //!
@@ -41,6 +42,7 @@ extern crate alloc;
 mod adpcm;
 mod dsp;
 mod encode;
+mod merge;
 mod mode;
 mod parameters;
 mod positions;
@@ -59,6 +61,7 @@ struct Readme;
 pub use adpcm::decode_adpcm;
 pub use dsp::{read_dsp, write_dsp};
 pub use encode::{Encoded, encode_adpcm};
+pub use merge::{merge, merge_bytes};
 pub use parameters::{PARAMETERS, Parameters, revision};
 pub use positions::Position;
 pub use range::Range;

@@ -33,6 +33,12 @@ pub enum Refusal {
     Count,
     /// 15: the output of an ADPCM encode is too short for the samples.
     Encoded,
+    /// 16: a voice is in use in both blocks of a merge.
+    Voices,
+    /// 17: a channel is named from both blocks of a merge.
+    Channels,
+    /// 18: the output of a merge is too short for the block.
+    Block,
     /// A number that this version of the crate does not know, from a library of another version.
     Other(u32),
 }
@@ -55,6 +61,9 @@ impl Refusal {
             Refusal::Ranges => 13,
             Refusal::Count => 14,
             Refusal::Encoded => 15,
+            Refusal::Voices => 16,
+            Refusal::Channels => 17,
+            Refusal::Block => 18,
             Refusal::Other(number) => number,
         }
     }
@@ -77,6 +86,9 @@ impl Refusal {
             13 => Refusal::Ranges,
             14 => Refusal::Count,
             15 => Refusal::Encoded,
+            16 => Refusal::Voices,
+            17 => Refusal::Channels,
+            18 => Refusal::Block,
             number => Refusal::Other(number),
         })
     }
@@ -98,6 +110,9 @@ impl Refusal {
             Refusal::Ranges => "there are more than 16 ranges, a part lies outside memory, or a base below the end of the range before",
             Refusal::Count => "a section has more than 1,024 renders",
             Refusal::Encoded => "the output of an ADPCM encode is too short for the samples",
+            Refusal::Voices => "a voice is in use in both blocks",
+            Refusal::Channels => "a channel is named from both blocks",
+            Refusal::Block => "the output of a merge is too short for the block",
             Refusal::Other(_) => "an unknown number",
         }
     }

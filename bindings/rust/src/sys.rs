@@ -160,6 +160,16 @@ pub struct DspWritten {
     pub size: usize,
 }
 
+/// What a merge answers.
+#[repr(C)]
+#[derive(Clone, Copy, Debug, PartialEq, Eq)]
+pub struct Merged {
+    /// 0, or the refusal's number.
+    pub number: u32,
+    /// Bytes of the merged block.
+    pub size: usize,
+}
+
 unsafe extern "C" {
     /// How long the five slices of a renderer must be. Refusals: 1, 2.
     pub fn jeqlluna_lengths(parameters: *const u8, parameters_len: usize) -> Lengths;
@@ -289,4 +299,16 @@ unsafe extern "C" {
 
     /// Writes a DSP file to the front of the output. Refusals: 11, 12.
     pub fn jeqlluna_write_dsp(header: DspHeader, data: *const u8, data_len: usize, output: *mut u8, output_len: usize) -> DspWritten;
+
+    /// One update block of a title's and a click track's, to the front of the output. Refusals, in this sequence: 2, 16, 17, 18.
+    pub fn jeqlluna_merge(
+        parameters: *const u8,
+        parameters_len: usize,
+        title: *const u8,
+        title_len: usize,
+        click: *const u8,
+        click_len: usize,
+        output: *mut u8,
+        output_len: usize,
+    ) -> Merged;
 }

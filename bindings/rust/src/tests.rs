@@ -3,6 +3,7 @@ mod adpcm;
 mod dsp;
 mod encode;
 mod lengths;
+mod merge;
 mod modes;
 mod positions;
 mod ranges;

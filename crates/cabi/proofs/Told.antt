@@ -1,4 +1,4 @@
--- A header by its parts, a reading's outcome by its number, and an encoding's answer in numbers. Assumes nothing.
+-- A header by its parts, a reading's outcome by its number, and an encoding's and a merge's answer in numbers. Assumes nothing.
 use Prim.Native.Nat.{ℕ}
 use mathlib.Core.Bool.{Bool, true, false, cond}
 use mathlib.Core.List.{List}
@@ -13,8 +13,12 @@ use Rattle.dsp_file.specs.File.{ReadOutcome, dataOf}
 use Rattle.encoder.specs.Answer.{encodeSeen}
 use Rattle.encoder.specs.declared.encode.EncodeAnswer.{EncodeAnswer}
 use Rattle.encoder.specs.declared.encode.EncodeAnswer.the-variants.{Done, ShortOutput}
+use Rattle.merging.specs.Answer.{mergeSeen}
+use Rattle.merging.specs.declared.MergeAnswer.{MergeAnswer}
+use Rattle.merging.specs.declared.MergeAnswer.the-variants.{Merged, Counts, Voices, Channels, Output}
 use Rattle.cabi.specs.Dsp.{Placed, placed}
 use Rattle.cabi.specs.Encode.{encodeLeft, encodeTold}
+use Rattle.cabi.specs.Merge.{mergeIn, mergeTold}
 
 -- a header with other contexts
 abbrev pub withContexts : AdpcmContext → AdpcmContext → DspHeader → DspHeader
@@ -55,3 +59,11 @@ module _ (o : ReadOutcome) (file : List ℕ) {n : ℕ} {h : DspHeader} (en : n �
 pub encode-seen : (a : EncodeAnswer) (out : List ℕ) → encodeLeft (encodeTold a) out ≡ encodeSeen a out
 encode-seen (Done n e) out = refl
 encode-seen ShortOutput out = refl
+
+-- and a merge's
+pub merge-seen : (a : MergeAnswer) (out : List ℕ) → mergeIn (mergeTold a) out ≡ mergeSeen a out
+merge-seen (Merged size) out = refl
+merge-seen Counts out = refl
+merge-seen Voices out = refl
+merge-seen Channels out = refl
+merge-seen Output out = refl

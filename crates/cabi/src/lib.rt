@@ -4,6 +4,7 @@ mod answers;
 mod decode;
 mod dsp;
 mod encode;
+mod merge;
 
 pub use answers::JeqllunaLength;
 pub use answers::JeqllunaLengths;
@@ -20,6 +21,8 @@ pub use dsp::jeqlluna_read_dsp;
 pub use dsp::jeqlluna_write_dsp;
 pub use encode::JeqllunaEncoded;
 pub use encode::jeqlluna_encode_adpcm;
+pub use merge::JeqllunaMerged;
+pub use merge::jeqlluna_merge;
 ghost use mathlib.Core.Path.{_≡_};
 ghost use Rattle.ranges.specs.Ranges.{rangesOf};
 ghost use Rattle.params.specs.Params.{parseOf};

@@ -22,7 +22,7 @@ fn words_of_the_header() {
         .filter_map(|line| line.trim().split_once(" = "))
         .map(|(name, rest)| (name, rest.split([',', ' ']).next().unwrap().parse().unwrap()))
         .collect();
-    assert_eq!(names.len(), 15);
+    assert_eq!(names.len(), 18);
     for (name, number) in names {
         let words = between(&header, &(String::from("case ") + name + ":\n        return \""), "\"")[0];
         match Refusal::check(number) {
@@ -40,7 +40,7 @@ fn words_of_the_header() {
 #[test]
 fn unknown_numbers() {
     let words = between(&header(), "default:\n        return \"", "\"")[0].to_string();
-    for number in [10, 16, 1000, u32::MAX] {
+    for number in [10, 19, 1000, u32::MAX] {
         let refusal = Refusal::check(number).unwrap_err();
         assert_eq!((refusal, refusal.number()), (Refusal::Other(number), number));
         assert_eq!(refusal.to_string(), std::format!("{words} (refusal {number})"));
