@@ -12,7 +12,7 @@ use Rattle.params.specs.declared.params.Params.{Params}
 use Rattle.params.specs.Sections.{voicesSection}
 use Rattle.whole.specs.Counts.{countTests, countsAllowed}
 use Rattle.merging.specs.Merge.{voicesApart, channelsApart, mergedBlock}
-use Rattle.merging.specs.Marks.{Named}
+use Rattle.merging.specs.Marks.{NamesMarked}
 use Rattle.merging.specs.Answer.{MergeOutcome, mergeLeft, mergeDone, mergeCall}
 
 -- ---- question 18
@@ -33,7 +33,7 @@ unfolding all
 all-alike zero f g h = refl
 all-alike (suc n) f g h = λ i. all-alike n f g (λ j l. h j (omega arith)) i && h n (omega arith) i
 
-pub apart-by-marks : (n : ℕ) (d e : List ℕ) (a b : List Bool) → Named n d a → Named n e b
+pub apart-by-marks : (n : ℕ) (d e : List ℕ) (a b : List Bool) → NamesMarked n d a → NamesMarked n e b
     → all n (λ j. not (getD a j false && getD b j false)) ≡ channelsApart n d e
 unfolding channelsApart
 apart-by-marks n d e a b x y = all-alike n _ _ (λ j l i. not (x j l i && y j l i))

@@ -9,7 +9,7 @@ use Rattle.rows.specs.Tables.{joined}
 use Rattle.params.specs.Sections.{voicesSection, resourcesSection}
 use Rattle.voices.specs.Voices.{recordAt}
 use Rattle.merging.specs.Merge.{resourceSize, recordSize, padded, usedAt, chosenRecord, mergedRecord, chosenResource, mergedResource}
-use Rattle.merging.specs.Marks.{Named}
+use Rattle.merging.specs.Marks.{NamesMarked}
 
 module _ (d e : List ℕ) (k : ℕ) where
   pub chosen-first : usedAt d k ≡ true → recordAt d k ≡ chosenRecord d e k
@@ -40,7 +40,7 @@ unfolding joined
 joined-alike zero f g h = refl
 joined-alike (suc n) f g h = λ i. joined-alike n f g (λ j l. h j (omega arith)) i ++ h n (omega arith) i
 
-pub resources-are : (n : ℕ) (t c : List ℕ) (marks : List Bool) → Named n (voicesSection c) marks
+pub resources-are : (n : ℕ) (t c : List ℕ) (marks : List Bool) → NamesMarked n (voicesSection c) marks
     → joined n (λ j. chosenResource (getD marks j false) (resourcesSection t) (resourcesSection c) j) ≡ joined n (mergedResource n t c)
 unfolding mergedResource
 resources-are n t c marks h =

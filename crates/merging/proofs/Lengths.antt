@@ -4,11 +4,12 @@ use mathlib.Core.Path.{_≡_, _∙_}
 use mathlib.Core.List.{List}
 use Prim.Native.Nat.{ℕ, _+_, _*_, _≤_}
 use native.Mathlib.Omega.{arith}
-use lib.ListN.{length, length-append}
+use lib.ListN.{length, length-append, length-drop}
 use Rattle.rows.specs.Rows.{put, length-put}
 use Rattle.rows.specs.Tables.{joined, length-table, length-joined}
-use Rattle.fields.specs.Fields.{bytesOf}
+use Rattle.fields.specs.Fields.{bytesOf, restOf}
 use Rattle.fields.specs.Writes.{length-bytes}
+use Rattle.params.specs.Sections.{sectionsOf}
 use Rattle.merging.specs.Merge.{resourceSize, recordSize, blockHeader, padded, mergedRecord, chosenResource, mergedResource}
 use Rattle.merging.specs.Merge.{titleHeader, titleSections, writtenHeader, mergedPools, behindVoices, mergedBlock}
 
@@ -66,3 +67,9 @@ pub length-merged : (n : ℕ) (t c : List ℕ)
 unfolding mergedBlock
 length-merged n t c =
     rw (length-append, length-append, length-append, length-append, length-written, length-pools, length-resources, length-records)
+
+-- where the title's header, behaviour and pools lie inside it, it takes the title's length and a resource and a record for each voice
+pub room-enough : (n : ℕ) (t c : List ℕ) → titleSections t .«resources_at» ≤ length t
+    → length (mergedBlock n t c) ≤ length t + n * (resourceSize + recordSize)
+unfolding restOf sectionsOf
+room-enough n t c inside = omega (arith, length-merged n t c, length-drop (titleSections t .«effects_at») t)

@@ -14,7 +14,7 @@ use Rattle.voice_records.specs.Record.{recordChannels, idAt}
 use Rattle.voice_records.specs.Laws.{id-below}
 use Rattle.voices.specs.Voices.{recordAt}
 use Rattle.merging.specs.Merge.{usedAt, anyBelow, recordNames, names}
-use Rattle.merging.specs.Marks.{mostMarks, Named, markChannel, markedBy, markedAt, marked}
+use Rattle.merging.specs.Marks.{mostMarks, NamesMarked, markChannel, markedBy, markedAt, marked}
 
 -- ---- or
 
@@ -90,7 +90,7 @@ module _ (n : ℕ) (some : 0 < n) (few : n ≤ mostMarks) (j : ℕ) where
       (λ k x _ h. length-marked-at n d k x h) (λ k x _ h. voice-by (usedAt d k) (recordAt d k) x h) n m (omega arith) l
 
 -- from no mark on
-pub marked-names : (n : ℕ) → n ≤ mostMarks → (d : List ℕ) → Named n d (marked n d (replicate mostMarks false))
+pub marked-names : (n : ℕ) → n ≤ mostMarks → (d : List ℕ) → NamesMarked n d (marked n d (replicate mostMarks false))
 marked-names n few d j h =
     section-marks n (omega arith) few j d (replicate mostMarks false) (length-replicate mostMarks false)
     ∙ ap (λ (x : Bool). x || names n d j) (getD-replicate mostMarks j false false (omega arith))

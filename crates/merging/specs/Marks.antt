@@ -14,8 +14,8 @@ abbrev pub mostMarks : ℕ
 mostMarks = 64
 
 -- the first n marks are those of the resources that the section's voices name
-abbrev pub Named : ℕ → List ℕ → List Bool → Type 0
-Named n d marks = (j : ℕ) → j < n → getD marks j false ≡ names n d j
+abbrev pub NamesMarked : ℕ → List ℕ → List Bool → Type 0
+NamesMarked n d marks = (j : ℕ) → j < n → getD marks j false ≡ names n d j
 
 -- by one of a record's channels, by all that it plays, and by a record that may be in use
 abbrev pub markChannel : ℕ → List ℕ → ℕ → List Bool → List Bool

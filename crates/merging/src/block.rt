@@ -8,7 +8,7 @@ ghost use Rattle.rows.specs.Tables.{joined};
 ghost use Rattle.params.specs.Sections.{voicesSection, Near};
 ghost use Rattle.merging.specs.Merge.{blockHeader, resourceSize, recordSize, titleSections, writtenHeader, mergedPools};
 ghost use Rattle.merging.specs.Merge.{mergedResource, mergedRecord, mergedBlock};
-ghost use Rattle.merging.specs.Marks.{Named};
+ghost use Rattle.merging.specs.Marks.{NamesMarked};
 ghost use Rattle.merging.specs.Answer.{mergeDone, mergeSeen};
 use crate::MergeAnswer;
 use crate::RESOURCE_IN;
@@ -58,7 +58,7 @@ fn put_front(output: &mut [u8], n: usize, title: &[u8], pools: usize)
 
 // Channel resources and voices.
 fn put_sections(output: &mut [u8], at: usize, n: usize, title: &[u8], click: &[u8], named: &[bool])
-    requires { ⌜ (n ≤ 64) × (n ≤ length (now named)) × Named n (voicesSection (now click)) (now named) ⌝ }
+    requires { ⌜ (n ≤ 64) × (n ≤ length (now named)) × NamesMarked n (voicesSection (now click)) (now named) ⌝ }
     requires { ⌜ at + n * resourceSize + n * recordSize ≤ length (now output) ⌝ }
     ensures { λ _. ⌜ now (output .exit) ≡ put (now (output .entry)) at
         (joined n (mergedResource n (now (title .entry)) (now (click .entry)))
@@ -82,7 +82,7 @@ pub fn put_block(
     named: &[bool],
     output: &mut [u8],
 ) -> MergeAnswer
-    requires { ⌜ (n ≤ 64) × (n ≤ length (now named)) × Named n (voicesSection (now click)) (now named) ⌝ }
+    requires { ⌜ (n ≤ 64) × (n ≤ length (now named)) × NamesMarked n (voicesSection (now click)) (now named) ⌝ }
     ensures { λ r. ⌜ mergeSeen r (now (output .exit))
         ≡ mergeDone (mergedBlock n (now (title .entry)) (now (click .entry))) (now (output .entry)) ⌝ }
 {

@@ -6,6 +6,7 @@ pub mod Steps
 pub mod Updates
 pub mod Sections
 pub mod Items
+pub mod Renders
 pub mod Merges
 pub mod Unused
 pub mod Plays

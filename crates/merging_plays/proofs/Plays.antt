@@ -12,14 +12,16 @@ use Rattle.whole.specs.Whole.{Whole}
 use Rattle.voice_records.specs.Record.{recordUsed}
 use Rattle.voices.specs.Voices.{voiceRecord}
 use Rattle.reply_sections.specs.Bytes.{zeros}
+use Rattle.updates.specs.Update.{updated}
 use Rattle.merging.specs.Merge.{recordSize, mergedBlock}
 use Rattle.merging.specs.Answer.{mergeCall}
 use Rattle.merging_plays.specs.Own.{Own}
-use Rattle.merging_plays.specs.Plays.{mergedFor, Whose, title, click, blockOf, inUse, PlaysAsIn, PutsOut}
+use Rattle.merging_plays.specs.Plays.{mergedFor, Whose, title, click, blockOf, inUse, PlaysAsIn, RendersAsIn, PutsOut}
 use Rattle.merging_plays.proofs.Laid.{record-merged, merged-nonempty, used-nonempty}
 use Rattle.merging_plays.proofs.Steps.{updated-own}
 use Rattle.merging_plays.proofs.Updates.{updates-tell}
 use Rattle.merging_plays.proofs.Items.{first-and-rest, items-play}
+use Rattle.merging_plays.proofs.Renders.{renders-play}
 use Rattle.merging_plays.proofs.Merges.{merges}
 use Rattle.merging_plays.proofs.Unused.{unused-puts}
 
@@ -67,14 +69,22 @@ module _ (st : State) (w : Whole st) (t c output : List ℕ) (yes : mergeCall (p
   record-from title u = record-is ∙ from-title (inUse k t) (inUse k c) _ _ _ u
   record-from click u = record-is ∙ from-click (inUse k t) (inUse k c) _ _ _ (merges p t c output yes .apart k l) u
 
+  self : Own p k st st
+  self = record { left = w; right = w; left-params = refl; right-params = refl; voice = refl }
+
+  -- after an update with the one and with the other
+  merged-own : (x : Whose) → inUse k (blockOf x t c) ≡ true → Own p k (updated p merged st) (updated p (blockOf x t c) st)
+  merged-own x u = updated-own l self merged (blockOf x t c) some-merged (used-nonempty (blockOf x t c) k u) (record-from x u)
+
   -- the voice plays as in the block where it is in use
   pub merged-plays : (x : Whose) → PlaysAsIn st t c output k x
   merged-plays x u expected reply reply′ long xs xs′ e =
-      let own = blockOf x t c in
-      let self : Own p k st st = record { left = w; right = w; left-params = refl; right-params = refl; voice = refl } in
-      let after = updated-own l self merged own some-merged (used-nonempty own k u) (record-from x u) in
-      let first = updates-tell l self expected merged own after reply reply′ long in
+      let first = updates-tell l self expected merged (blockOf x t c) (merged-own x u) reply reply′ long in
       first-and-rest first refl (items-play l (first .own) xs xs′ e)
+
+  -- in renders that are not refused also where slices of other lengths are lent
+  pub merged-renders : (x : Whose) → RendersAsIn st t c output k x
+  merged-renders x u xs xs′ same e e′ = renders-play l (merged-own x u) xs xs′ same e e′
 
   -- one that is in use in neither is put out of use, as by either block alone that isn't empty
   pub merged-unused : inUse k t ≡ false → inUse k c ≡ false

@@ -1,4 +1,5 @@
 pub mod Own
 pub mod VoiceStatus
 pub mod Told
+pub mod Renders
 pub mod Plays

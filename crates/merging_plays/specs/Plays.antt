@@ -7,12 +7,14 @@ use lib.ListN.{length, take}
 use Rattle.state.specs.State.{State, paramsIn}
 use Rattle.voice_records.specs.Record.{recordUsed}
 use Rattle.voices.specs.Voices.{voiceRecord}
+use Rattle.updates.specs.Update.{updated}
 use Rattle.state_voices.specs.StateVoices.{voiceIn}
 use Rattle.update_alike.specs.VoiceAfter.{outOfUse}
 use Rattle.secrecy.specs.Sessions.{update, after, said}
 use Rattle.secrecy_items.specs.Items.{Item, single, itemShape, stateAtItem}
 use Rattle.merging.specs.Answer.{mergeCall}
 use Rattle.merging_plays.specs.Told.{toldItems}
+use Rattle.merging_plays.specs.Renders.{Rendering, NoneRefused, SameRanges, RendersAlike}
 
 -- two lists of items, each from a state of its own: each item tells the same of voice k as the other list's at its place, and before each
 -- item, and after the last, voice k is the same
@@ -51,6 +53,14 @@ PlaysAsIn st t c output k x =
     → (xs xs′ : List Item) → map itemShape xs ≡ map itemShape xs′
     → PlaysAlike k st st
     (single (update expected (mergedFor st t c output) reply) ∷ xs) (single (update expected (blockOf x t c) reply′) ∷ xs′)
+
+-- so many renders behind the update that are not refused, of the same ranges, with slices of any lengths
+abbrev pub RendersAsIn : State → List ℕ → List ℕ → List ℕ → ℕ → Whose → Type 0
+RendersAsIn st t c output k x =
+    let a = updated (paramsIn st) (mergedFor st t c output) st in
+    let b = updated (paramsIn st) (blockOf x t c) st in
+    inUse k (blockOf x t c) ≡ true → (xs xs′ : List Rendering) → SameRanges xs xs′ → NoneRefused a xs → NoneRefused b xs′
+    → RendersAlike k a b xs xs′
 
 -- ---- of voice k, in use in neither
 

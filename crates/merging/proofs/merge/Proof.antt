@@ -10,7 +10,7 @@ use borrow.Author.Needs.{needs}
 use Rattle.params.specs.Sections.{voicesSection}
 use Rattle.whole.specs.Counts.{countsAllowed}
 use Rattle.merging.specs.Merge.{voicesApart, channelsApart}
-use Rattle.merging.specs.Marks.{mostMarks, Named, marked}
+use Rattle.merging.specs.Marks.{mostMarks, NamesMarked, marked}
 use Rattle.merging.proofs.Asked.{merge-is, apart-by-marks, counts-few}
 use Rattle.merging.proofs.Marking.{marked-names}
 use Rattle.merging.proofs.merge.Statement.{statement}
@@ -38,12 +38,13 @@ voices-yes : (c : tie.Else2)
 voices-yes c = voices (c .before) ∙ not-false _ (c .if2 .left)
 
 -- marks made of a section d that is the one found, x
-marks-named : (n : ℕ) → n ≤ 64 → {d x : List ℕ} {m : List Bool} → x ≡ d → m ≡ marked n x (replicate mostMarks false) → Named n d m
-marks-named n h {d} e q = subst (Named n d) (sym (q ∙ ap (λ (y : List ℕ). marked n y (replicate mostMarks false)) e)) (marked-names n h d)
+marks-named : (n : ℕ) → n ≤ 64 → {d x : List ℕ} {m : List Bool} → x ≡ d → m ≡ marked n x (replicate mostMarks false) → NamesMarked n d m
+marks-named n h {d} e q =
+    subst (NamesMarked n d) (sym (q ∙ ap (λ (y : List ℕ). marked n y (replicate mostMarks false)) e)) (marked-names n h d)
 
 title-named : (c : tie.After-mark-named)
     → (let a = c .before .before .before .before .before .before .before .before .before .before .before .before .args in
-    Named (a .p .voices) (voicesSection (a .title .now)) (c .mark-named .last .1 .1 .0))
+    NamesMarked (a .p .voices) (voicesSection (a .title .now)) (c .mark-named .last .1 .1 .0))
 title-named c =
     let found = c .before .before .before .before .before in
     marks-named _ (few (found .before .before)) (found .voices-section .ensures) (c .mark-named .ensures)
@@ -51,7 +52,7 @@ title-named c =
 click-named : (c : tie.After-mark-named2)
     → (let asked = c .before .before .before .before .before .before in
     let a = asked .before .before .before .before .before .before .before .before .before .args in
-    Named (a .p .voices) (voicesSection (a .click .now)) (c .mark-named2 .last .1 .1 .0))
+    NamesMarked (a .p .voices) (voicesSection (a .click .now)) (c .mark-named2 .last .1 .1 .0))
 click-named c =
     let found = c .before .before .before .before .before .before .before in
     marks-named _ (few (found .before .before .before)) (found .voices-section2 .ensures) (c .mark-named2 .ensures)
