@@ -1,4 +1,6 @@
 // A read of sample memory as the decoder takes it: from the slice itself where it lies in one range, gathered where it crosses.
+#![tactic(auto)]
+
 ghost use Rattle.std.specs.Prelude.{◌≡◌, true, ◌≤◌, ◌^◌, length, take};
 ghost use Rattle.ranges.specs.Ranges.{ranges_of, readable_of};
 ghost use Rattle.ranges.specs.Ascending.{Ascending};

@@ -4,7 +4,7 @@ ghost use Rattle.adpcm.specs.Context.{context_of, coefficients_of};
 use fields::{signed16, u16_at};
 
 // What a decode starts from and leaves: the last header and the last two samples, the later first.
-#[derive(Drop)]
+#[derive(Clone, Copy)]
 pub struct AdpcmContext {
     pub pred_scale: u16,
     pub history0: i16,

@@ -10,7 +10,7 @@ use crate::places::{Byte, Sample, adpcm_nibble, adpcm_nibble_byte, adpcm_size_sa
 use crate::step::step;
 
 // What one sample leaves: the bytes had run out, or history0 is the sample.
-#[derive(Drop)]
+#[derive(Clone, Copy)]
 pub enum Took {
     Short(AdpcmContext),
     Got(AdpcmContext),
@@ -90,7 +90,7 @@ pub fn adpcm_count(bytes: u64, start: Sample, want: u32) -> u32
     }
 }
 
-#[derive(Drop)]
+#[derive(Clone, Copy)]
 pub struct Decoded {
     pub done: usize,
     pub context: AdpcmContext,
@@ -139,7 +139,7 @@ pub fn decode_adpcm(
     Decoded { done, context: x }
 }
 
-#[derive(Drop)]
+#[derive(Clone, Copy)]
 pub enum AdpcmAnswer {
     Done(Decoded),
     // 8: the start is above 2^60.

@@ -1,5 +1,7 @@
 // DSP-ADPCM: 4-bit samples in frames of 8 bytes, a header and 14 samples, high nibble first.
 // A header has the scale in its low 4 bits and the predictor, which picks a pair of coefficients, above them.
+#![tactic(auto)]
+
 pub const ADPCM_SAMPLES_PER_FRAME: u64 = 14;
 
 const ADPCM_NIBBLES_PER_FRAME: u64 = 16;

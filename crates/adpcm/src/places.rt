@@ -5,13 +5,13 @@ ghost use Rattle.adpcm.specs.Places.{nibble_of, size_of, held_of};
 
 use crate::{ADPCM_BYTES_PER_FRAME, ADPCM_NIBBLES_PER_FRAME, ADPCM_SAMPLES_PER_FRAME};
 
-#[derive(Drop)]
+#[derive(Clone, Copy)]
 pub struct Sample(pub u64);
 
-#[derive(Drop)]
+#[derive(Clone, Copy)]
 pub struct Nibble(pub u64);
 
-#[derive(Drop)]
+#[derive(Clone, Copy)]
 pub struct Byte(pub u64);
 
 impl Sample {

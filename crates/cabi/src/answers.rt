@@ -8,7 +8,7 @@ use renderer::{
 };
 
 #[repr(C)]
-#[derive(Drop)]
+#[derive(Clone, Copy)]
 pub struct JeqllunaLengths {
     pub number: u32,
     pub words: usize,
@@ -19,14 +19,14 @@ pub struct JeqllunaLengths {
 }
 
 #[repr(C)]
-#[derive(Drop)]
+#[derive(Clone, Copy)]
 pub struct JeqllunaLength {
     pub number: u32,
     pub size: usize,
 }
 
 #[repr(C)]
-#[derive(Drop)]
+#[derive(Clone, Copy)]
 pub struct JeqllunaUpdate {
     pub number: u32,
     // The length of the reply.
@@ -34,7 +34,7 @@ pub struct JeqllunaUpdate {
 }
 
 #[repr(C)]
-#[derive(Drop)]
+#[derive(Clone, Copy)]
 pub struct JeqllunaRender {
     pub number: u32,
     // The rounds that the fetches took, of all voices; of a section, those of all its renders.
@@ -42,7 +42,7 @@ pub struct JeqllunaRender {
 }
 
 #[repr(C)]
-#[derive(Drop)]
+#[derive(Clone, Copy)]
 pub struct JeqllunaOrder {
     pub number: u32,
     // How many sub-mixes run.

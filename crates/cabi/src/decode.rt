@@ -7,7 +7,7 @@ use adpcm::{AdpcmAnswer, AdpcmContext, Sample};
 
 // The last header and the last two samples, the later first.
 #[repr(C)]
-#[derive(Drop)]
+#[derive(Clone, Copy)]
 pub struct JeqllunaContext {
     pub pred_scale: u16,
     pub history0: i16,
@@ -15,7 +15,7 @@ pub struct JeqllunaContext {
 }
 
 #[repr(C)]
-#[derive(Drop)]
+#[derive(Clone, Copy)]
 pub struct JeqllunaDecoded {
     pub number: u32,
     // How many samples were decoded.

@@ -9,7 +9,7 @@ use dsp_header::{DspHeader, HEADER_BYTES};
 
 // The values of a DSP file's header.
 #[repr(C)]
-#[derive(Drop)]
+#[derive(Clone, Copy)]
 pub struct JeqllunaDsp {
     pub samples: u32,
     pub nibbles: u32,
@@ -26,7 +26,7 @@ pub struct JeqllunaDsp {
 }
 
 #[repr(C)]
-#[derive(Drop)]
+#[derive(Clone, Copy)]
 pub struct JeqllunaDspRead {
     pub number: u32,
     pub header: JeqllunaDsp,
@@ -36,7 +36,7 @@ pub struct JeqllunaDspRead {
 }
 
 #[repr(C)]
-#[derive(Drop)]
+#[derive(Clone, Copy)]
 pub struct JeqllunaDspWritten {
     pub number: u32,
     // How many bytes were written.

@@ -8,7 +8,7 @@ use crate::decode::{JeqllunaContext, context_in, sixteen};
 use encoder::EncodeAnswer;
 
 #[repr(C)]
-#[derive(Drop)]
+#[derive(Clone, Copy)]
 pub struct JeqllunaEncoded {
     pub number: u32,
     // How many bytes were written.

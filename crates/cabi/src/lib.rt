@@ -1,5 +1,7 @@
 // The calls for C, Rust and other languages: numbers, lent slices and structs of numbers. Each answer has a number of docs/QUESTIONS.md, 0 for success.
 // include/jeqlluna.h declares them.
+#![tactic(auto)]
+
 mod answers;
 mod decode;
 mod dsp;

@@ -8,7 +8,7 @@ use merging::MergeAnswer;
 use params::Params;
 
 #[repr(C)]
-#[derive(Drop)]
+#[derive(Clone, Copy)]
 pub struct JeqllunaMerged {
     pub number: u32,
     // How many bytes the merged block has.

@@ -1,1 +1,2 @@
 // What each call answers and leaves: the crate is its specs/.
+#![tactic(auto)]

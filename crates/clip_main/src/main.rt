@@ -1,5 +1,7 @@
 // Decodes an ADPCM clip from standard input and writes its samples in decimal, a frame of 14 to a line.
 // The clip: 16 coefficients of 16 bits, the context's three numbers of 16 bits, and frames of 8 bytes up to the end.
+#![tactic(auto)]
+
 use adpcm::{AdpcmAnswer, AdpcmContext, Sample};
 
 const HEADER: usize = 38;

@@ -1,4 +1,6 @@
 // The update of mixes: its records, and then every mix's offset.
+#![tactic(auto)]
+
 mod mixes;
 mod offsets;
 

@@ -5,7 +5,7 @@ ghost use Rattle.desk_order.specs.DeskOrder.{mix_order};
 ghost use Rattle.desk_order.specs.Listed.{listed_of};
 
 // The sub-mixes that run, in their sequence, and zeros behind them.
-#[derive(Drop)]
+#[derive(Clone, Copy)]
 pub struct MixOrder {
     pub count: u32,
     pub mixes: [u32; 31],

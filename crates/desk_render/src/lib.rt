@@ -1,4 +1,6 @@
 // The end of a render, on the rows of the state: `render_mixes` and `write_sink` of mixer.rs.
+#![tactic(auto)]
+
 ghost use Rattle.std.specs.Prelude.{◌≡◌, ◌++◌, ◌*◌, ◌≤◌, length, drop};
 ghost use Rattle.params.specs.Sizes.{Allowed};
 ghost use Rattle.state.specs.State.{mixes_of, words_of, mix_words_in, list_words_in};

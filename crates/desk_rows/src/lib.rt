@@ -1,4 +1,6 @@
 // The desk's rows: what a splitter's destination is.
+#![tactic(auto)]
+
 ghost use Rattle.std.specs.Prelude.{◌≡◌, ◌<◌};
 ghost use Rattle.desk_rows.specs.DeskRows.{Lists, configured_of, destination_mix};
 

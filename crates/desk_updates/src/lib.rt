@@ -1,5 +1,7 @@
 // The updates of channel resources, splitters, mixes and sinks, each on the rows of its kind, lent from where they begin in the state's slices:
 // at a in the words, at c in the floats.
+#![tactic(auto)]
+
 ghost use Rattle.std.specs.Prelude.{◌≡◌, ◌+◌, ◌*◌, ◌^◌, ◌≤◌, ◌<◌, length};
 ghost use Rattle.rows.specs.Rows.{part, put};
 ghost use Rattle.desk_mixes.specs.Mixes.{MixesSized};

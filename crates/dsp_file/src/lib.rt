@@ -1,5 +1,7 @@
 // DSP files: a header of 96 bytes, then ADPCM frames. A reader, and a writer that gives back the same bytes.
 // Both ask questions 11 and 12 of docs/QUESTIONS.md, in that sequence.
+#![tactic(auto)]
+
 ghost use Rattle.std.specs.Prelude.{◌≡◌};
 ghost use Rattle.dsp_file.specs.File.{plain_values, holds_samples, has_room, data_of, refused_by};
 ghost use Rattle.dsp_file.specs.File.{read_seen, read_call, write_seen, write_call};
@@ -8,7 +10,7 @@ use adpcm::{AdpcmContext, Sample};
 use dsp_header::{DspHeader, HEADER_BYTES};
 
 // What a reader says of a file.
-#[derive(Drop)]
+#[derive(Clone, Copy)]
 pub enum DspAnswer {
     Read,
     // 11: fewer than 96 bytes, or format, gain or padding is not 0.
@@ -18,14 +20,14 @@ pub enum DspAnswer {
 }
 
 // An answer with the header that was read; a header of zeros where the file is refused.
-#[derive(Drop)]
+#[derive(Clone, Copy)]
 pub struct DspRead {
     pub answer: DspAnswer,
     pub header: DspHeader,
 }
 
 // What a writer says: the bytes that it has written, or why it has written none.
-#[derive(Drop)]
+#[derive(Clone, Copy)]
 pub enum DspWritten {
     Written(usize),
     // 11: format or gain is not 0.

@@ -1,4 +1,6 @@
 // The header of a DSP file, 96 bytes, big-endian: read from bytes and written to them.
+#![tactic(auto)]
+
 mod big;
 mod read;
 mod write;
@@ -13,7 +15,7 @@ pub use write::put_header;
 pub const HEADER_BYTES: usize = 96;
 
 // The values of a header, in the file's sequence. The padding behind them is no value.
-#[derive(Drop)]
+#[derive(Clone, Copy)]
 pub struct DspHeader {
     pub samples: u32,
     pub nibbles: u32,

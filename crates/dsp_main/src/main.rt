@@ -1,5 +1,7 @@
 // Reads a DSP file from standard input and writes its header by name, how long its data is, and its samples in decimal,
 // a frame of 14 to a line; or the number of the question that refuses it.
+#![tactic(auto)]
+
 mod print;
 
 ghost use Rattle.std.specs.Prelude.{◌≡◌, ◌<◌, ◌^◌, length};

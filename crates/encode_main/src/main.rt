@@ -2,6 +2,8 @@
 // the samples that they decode to in decimal, a frame to a line; and the sum of the squared differences between these and the recording's.
 // The recording: 16 coefficients of 16 bits, the context's three numbers of 16 bits, and samples of 16 bits up to the end, little-endian.
 // At most 4,096 bytes are read.
+#![tactic(auto)]
+
 use adpcm::{AdpcmAnswer, AdpcmContext, Sample};
 use encoder::EncodeAnswer;
 

@@ -59,7 +59,7 @@ fn encode_frames(
     Encoding { context: x, error }
 }
 
-#[derive(Drop)]
+#[derive(Clone, Copy)]
 pub enum EncodeAnswer {
     // The size of the bytes, and what the encoding leaves; the sum is held at 2^64 - 1.
     Done(usize, Encoding),

@@ -16,7 +16,7 @@ fn pack(high: u8, low: u8) -> u8
 }
 
 // A byte with two nibbles, or with a last one and 0, and the last two samples then, the later first.
-#[derive(Drop)]
+#[derive(Clone, Copy)]
 pub struct NextByte {
     pub byte: u8,
     pub h0: i16,
@@ -45,7 +45,7 @@ fn next_byte(samples: &[i16], i: usize, s: u16, c: i16, d: i16, h0: i16, h1: i16
 }
 
 // The last two samples, the later first.
-#[derive(Drop)]
+#[derive(Clone, Copy)]
 pub struct LastTwo {
     pub h0: i16,
     pub h1: i16,
@@ -70,7 +70,7 @@ fn put_nibbles(samples: &[i16], s: u16, c: i16, d: i16, h0: i16, h1: i16, out: &
 }
 
 // What an encoding leaves: the context, and the sum of squared differences.
-#[derive(Drop)]
+#[derive(Clone, Copy)]
 pub struct Encoding {
     pub context: AdpcmContext,
     pub error: u64,

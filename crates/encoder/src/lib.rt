@@ -1,4 +1,6 @@
 // DSP-ADPCM encoded: for each frame the header whose sum of squared differences is the least, and for each sample the nearest nibble.
+#![tactic(auto)]
+
 mod encode;
 mod frame;
 

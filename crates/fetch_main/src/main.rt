@@ -1,4 +1,6 @@
 // A worked example of docs/QUESTIONS.md: an endless loop of one sample, of which 240 are needed, gives 64 samples and 176 zeros in 64 rounds.
+#![tactic(auto)]
+
 ghost use Rattle.std.specs.Prelude.{◌≤◌, length};
 
 use adpcm::AdpcmContext;

@@ -1,4 +1,6 @@
 // Plan and sound of one channel in one call, for the comparison with the Rust and for programs that hold no plan.
+#![tactic(auto)]
+
 use adpcm::AdpcmContext;
 use plan::Source;
 use voice::Queue;

@@ -1,4 +1,6 @@
 // Fields of a block of bytes, little-endian: readers, sections and writers. A field that reaches past the end reads 0.
+#![tactic(auto)]
+
 mod numbers;
 
 ghost use Rattle.std.specs.Prelude.{◌≡◌, ◌+◌, ◌≤◌, ◌<◌, leb, length};

@@ -1,4 +1,6 @@
 // Rust's operations on f32 that Rattle lacks, each for every float and under its Rust name. All NaNs count as one.
+#![tactic(auto)]
+
 ghost use Rattle.std.specs.Prelude.{◌≡◌};
 ghost use Rattle.std.specs.Float.Ieee as Ieee;
 ghost use Rattle.std.specs.Float.{binary32};

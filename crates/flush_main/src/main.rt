@@ -1,4 +1,6 @@
 // The flush walk by the table of `voice` (proofs/FlushTable): four slots pending and valid, from slot 1 on, with index 2 and consumed 7.
+#![tactic(auto)]
+
 use voice::{Queue, WaveBuffer};
 
 // A wave buffer that has yet to be taken in.

@@ -1,4 +1,6 @@
 // mixer.rs `write_sink` over the desk's sinks: the first used device sink, by its row.
+#![tactic(auto)]
+
 ghost use Rattle.std.specs.Prelude.{◌≡◌, ◌++◌, ◌+◌, ◌*◌, ◌^◌, ◌≤◌, ◌<◌, length, drop};
 ghost use Rattle.rows.specs.Rows.{part};
 ghost use Rattle.sink.specs.Sink.{Silent};

@@ -1,4 +1,6 @@
 // mixer.rs `ramp` and `mix_into`: a gain that moves in equal steps over a row of samples, and a send into a row of the mix buffers.
+#![tactic(auto)]
+
 ghost use Rattle.std.specs.Prelude.{◌≡◌, ◌^◌, ◌<◌, ◌≤◌, true, ◌&&◌, length};
 ghost use Rattle.std.specs.Float.{binary32};
 ghost use Rattle.std.specs.Float.Ieee.{eq, add};

@@ -1,4 +1,6 @@
 // The sound of a voice's turn, by its rows in the slices of all voices: it is loaded, played and stored back.
+#![tactic(auto)]
+
 ghost use Rattle.std.specs.Prelude.{◌≡◌, ◌+◌, ◌*◌, ◌≤◌, ◌<◌, length, take};
 ghost use Rattle.rows.specs.Rows.{put};
 ghost use Rattle.sound_rows.specs.SoundRow.{contexts_of, history_of};

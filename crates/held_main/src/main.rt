@@ -1,5 +1,7 @@
 // Held notes: where a render needs no new sample, the resampler has three points, and the fourth is 2 * third - second.
 // Printed are the output halfway between the second and the third of some points, and two renders of a voice that is slowed and held.
+#![tactic(auto)]
+
 use turn::Render;
 use voice::{History, Play, Sound, Voice, WaveBuffer};
 
@@ -125,7 +127,7 @@ fn voice() -> Voice {
 }
 
 // A voice with its sound.
-#[derive(Drop)]
+#[derive(Clone, Copy)]
 struct VoiceSound {
     voice: Voice,
     sound: Sound,

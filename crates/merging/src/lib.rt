@@ -1,4 +1,6 @@
 // A title's update block and a click track's as one block.
+#![tactic(auto)]
+
 mod apart;
 mod block;
 mod marks;
@@ -12,7 +14,7 @@ use params::Params;
 // Bytes of a channel resource.
 pub const RESOURCE_IN: usize = 0x70;
 
-#[derive(Drop)]
+#[derive(Clone, Copy)]
 pub enum MergeAnswer {
     // The size of the block, which is at the front of the output.
     Merged(usize),

@@ -1,5 +1,7 @@
 // The nibble whose decoded sample is nearest to a given one. Samples are in offset binary here, -32768 to 32767 as 0 to 65535, and the
 // sixteen nibbles are counted by rank, from -8 up, so that all sums are of natural numbers.
+#![tactic(auto)]
+
 ghost use Rattle.std.specs.Prelude.{◌≡◌, ◌≤◌, ◌<◌, ◌^◌, cond, eqb, ◌*ℤ◌};
 ghost use Rattle.std.proofs.Math.IntN.{sub_ℕ};
 ghost use Rattle.nearest.specs.Nearest.{Chosen};
@@ -90,7 +92,7 @@ fn first_reaching(t: u32, predicted: u32, s: u16) -> u32
 }
 
 // A rank, and the sample of its nibble.
-#[derive(Drop)]
+#[derive(Clone, Copy)]
 struct Near {
     rank: u32,
     level: u32,
@@ -132,7 +134,7 @@ fn nearest_rank(t: u32, predicted: u32, s: u16) -> Near
 }
 
 // A nibble, the sample that it decodes to, and how far that is from the sample it was chosen for.
-#[derive(Drop)]
+#[derive(Clone, Copy)]
 pub struct Choice {
     pub nibble: u8,
     pub sample: i16,

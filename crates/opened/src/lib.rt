@@ -1,4 +1,6 @@
 // The state that an open makes (mixer.rs `State::new`): every row as its type's default.
+#![tactic(auto)]
+
 ghost use Rattle.std.specs.Prelude.{◌≡◌};
 ghost use Rattle.params.specs.Sizes.{Allowed};
 ghost use Rattle.state.specs.State.{state_of, Sized};

@@ -1,4 +1,6 @@
 // What a renderer is opened with, and where the sections of an update's input lie.
+#![tactic(auto)]
+
 mod params;
 mod sections;
 

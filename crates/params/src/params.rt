@@ -5,7 +5,7 @@ ghost use Rattle.params.specs.Sizes.{Allowed, revision_of, pools_of, info_bytes,
 
 const WAVE_BUFFERS_PER_VOICE: u32 = 4;
 
-#[derive(Drop)]
+#[derive(Clone, Copy)]
 pub struct Params {
     pub sample_rate: u32,
     pub sample_count: u32,

@@ -2,7 +2,7 @@
 ghost use Rattle.std.specs.Prelude.{◌≡◌};
 ghost use Rattle.params.specs.Sections.{sections_of, Near};
 
-#[derive(Drop)]
+#[derive(Clone, Copy)]
 pub struct Sections {
     pub behavior_size: usize,
     pub pools_size: usize,

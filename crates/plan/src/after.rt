@@ -9,7 +9,7 @@ use crate::Source;
 use voice::{Spot, WaveBuffer};
 
 // The spot, and whether another round may follow.
-#[derive(Drop)]
+#[derive(Clone, Copy)]
 pub struct Next {
     pub spot: Spot,
     pub going: bool,

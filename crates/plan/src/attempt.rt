@@ -8,13 +8,13 @@ use adpcm::{Byte, Sample};
 use voice::WaveBuffer;
 
 // The Rust's Option<usize>: a decode that is missing ends the buffer.
-#[derive(Drop)]
+#[derive(Clone, Copy)]
 pub enum Got {
     Missing,
     Samples(u32),
 }
 
-#[derive(Drop)]
+#[derive(Clone, Copy)]
 pub struct Attempt {
     pub got: Got,
     pub decode: Decode,

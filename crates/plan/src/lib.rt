@@ -1,5 +1,7 @@
 // What `fetch` of mixer.rs reads and how it moves a voice's position, without a byte of sample memory: the plan of a fetch.
 // The crate `sound` performs a plan's acts on the bytes.
+#![tactic(auto)]
+
 mod after;
 mod attempt;
 mod rounds;
@@ -11,7 +13,7 @@ pub use attempt::{Attempt, plan_decode};
 pub use rounds::{Plan, Step, begins, plan_fetch, plan_round};
 
 // What a fetch takes from its voice and from the render and does not change. The ranges of sample memory are lent beside it.
-#[derive(Drop)]
+#[derive(Clone, Copy)]
 pub struct Source {
     pub format: u32,
     pub channels: u32,
@@ -21,7 +23,7 @@ pub struct Source {
 }
 
 // What a round reads of sample memory, with the samples that it makes of it for each channel.
-#[derive(Drop)]
+#[derive(Clone, Copy)]
 pub enum Decode {
     Nothing,
     // PCM of a width in bytes: width, address, samples.
@@ -33,7 +35,7 @@ pub enum Decode {
 }
 
 // One round: whether an ADPCM context is read first, and where; then a decode.
-#[derive(Drop)]
+#[derive(Clone, Copy)]
 pub struct Act {
     pub renews: bool,
     pub context: u64,

@@ -12,7 +12,7 @@ use adpcm::Sample;
 use voice::{Queue, Spot, WaveBuffer};
 
 // What a fetch leaves: the queue, how many rounds it took, the samples got, and whether the coefficients can be read.
-#[derive(Drop)]
+#[derive(Clone, Copy)]
 pub struct Plan {
     pub queue: Queue,
     pub rounds: u32,
@@ -21,7 +21,7 @@ pub struct Plan {
 }
 
 // What a round leaves: the spot, the samples got, its act, and whether another may follow.
-#[derive(Drop)]
+#[derive(Clone, Copy)]
 pub struct Step {
     pub spot: Spot,
     pub got: u32,

@@ -1,4 +1,6 @@
 // The sound of a voice's turn (mixer.rs `render_voice`): each channel is fetched and resampled, and its last three samples are kept.
+#![tactic(auto)]
+
 ghost use Rattle.std.specs.Prelude.{◌≡◌, cond, ◌+◌, ◌-◌, ◌*◌, ◌≤◌, ◌<◌, ◌^◌, eqb, length};
 ghost use Rattle.rows.specs.Rows.{put};
 ghost use Rattle.resample.specs.Defs.{resampled};

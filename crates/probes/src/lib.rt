@@ -1,9 +1,10 @@
 // Exports of inner functions for the drivers of compare/, which hold them to the oracle. No part of the interface for titles.
+#![tactic(auto)]
 
 use adpcm::{AdpcmAnswer, AdpcmContext, Sample};
 
 #[repr(C)]
-#[derive(Drop)]
+#[derive(Clone, Copy)]
 pub struct ProbeDecoded {
     pub number: u32,
     pub done: u64,
@@ -13,7 +14,7 @@ pub struct ProbeDecoded {
 }
 
 #[repr(C)]
-#[derive(Drop)]
+#[derive(Clone, Copy)]
 pub struct ProbeContext {
     pub pred_scale: u16,
     pub history0: i16,

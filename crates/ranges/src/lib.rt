@@ -1,4 +1,6 @@
 // Sample memory in ranges: three numbers for each (base, start, size), ascending by base, each with a part of one lent slice.
+#![tactic(auto)]
+
 ghost use Rattle.std.specs.Prelude.{◌≡◌, ◌+◌, nat_le};
 ghost use Rattle.ranges.specs.Ranges.{range, ranges_of, holds, next_at, next_left, readable_of, goes_on};
 ghost use Rattle.ranges.specs.Questions.{follows as follows_of, follow as follow_of, laid_of, near_of};
@@ -11,7 +13,7 @@ pub const NUMBERS: usize = 3;
 const MOST: usize = 16;
 
 // Where a read has got to: the next address, and how many bytes are left.
-#[derive(Drop)]
+#[derive(Clone, Copy)]
 pub struct Reach {
     pub at: u64,
     pub left: u64,
@@ -66,7 +68,7 @@ pub fn readable(ranges: &[u64], addr: u64, len: u64) -> bool
 }
 
 // Where in the slice an address lies, and how many bytes its range has from there on.
-#[derive(Drop)]
+#[derive(Clone, Copy)]
 pub struct Stretch {
     pub at: u64,
     pub room: u64,

@@ -1,4 +1,6 @@
 // A render (mixer.rs `render`): every voice in turn, then the sub-mixes and the sink.
+#![tactic(auto)]
+
 mod rooms;
 
 ghost use Rattle.std.specs.Prelude.{◌≡◌, ℕ, ◌+◌, ◌*◌, ◌%◌, ◌^◌, ◌≤◌, List, length, slice_index, slice_set};

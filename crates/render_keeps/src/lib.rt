@@ -1,1 +1,2 @@
 // A render leaves a whole state whole: the crate is its specs/.
+#![tactic(auto)]

@@ -1,4 +1,6 @@
 // The voices of a render, one after the other.
+#![tactic(auto)]
+
 ghost use Rattle.std.specs.Prelude.{◌≡◌, ◌≤◌};
 ghost use Rattle.state.specs.State.{state_of};
 ghost use Rattle.turn.specs.Render.{render_over};

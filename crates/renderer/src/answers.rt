@@ -5,7 +5,7 @@ ghost use Rattle.renderer.specs.Answers.{open_number};
 use desk_order::MixOrder;
 
 // How long the five slices of a renderer's state must be.
-#[derive(Drop)]
+#[derive(Clone, Copy)]
 pub struct Lengths {
     pub words: usize,
     pub longs: usize,
@@ -14,7 +14,7 @@ pub struct Lengths {
     pub history: usize,
 }
 
-#[derive(Drop)]
+#[derive(Clone, Copy)]
 pub enum LengthsAnswer {
     Lengths(Lengths),
     // 1: samples per render
@@ -23,7 +23,7 @@ pub enum LengthsAnswer {
     Counts,
 }
 
-#[derive(Drop)]
+#[derive(Clone, Copy)]
 pub enum ReplyLengthAnswer {
     // The length of the reply.
     Length(usize),
@@ -33,7 +33,7 @@ pub enum ReplyLengthAnswer {
     Counts,
 }
 
-#[derive(Drop)]
+#[derive(Clone, Copy)]
 pub enum OpenAnswer {
     Opened,
     // 1: samples per render
@@ -58,7 +58,7 @@ impl OpenAnswer {
     }
 }
 
-#[derive(Drop)]
+#[derive(Clone, Copy)]
 pub enum UpdateAnswer {
     // The length of the reply.
     Updated(usize),
@@ -68,7 +68,7 @@ pub enum UpdateAnswer {
     ShortReply,
 }
 
-#[derive(Drop)]
+#[derive(Clone, Copy)]
 pub enum RenderAnswer {
     // The rounds that the fetches took, of all voices.
     Rendered(u32),
@@ -82,7 +82,7 @@ pub enum RenderAnswer {
     ShortFrames,
 }
 
-#[derive(Drop)]
+#[derive(Clone, Copy)]
 pub enum SectionAnswer {
     // The rounds that the fetches of all its renders took.
     Rendered(u32),
@@ -99,7 +99,7 @@ pub enum SectionAnswer {
 }
 
 // An enum can't hold an array here, so the number stands beside it.
-#[derive(Drop)]
+#[derive(Clone, Copy)]
 pub struct OrderAnswer {
     // 4: the state
     pub number: u32,

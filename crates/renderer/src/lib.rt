@@ -1,5 +1,7 @@
 // The calls that a title may make on a renderer, which is five lent slices. Each asks its questions (docs/QUESTIONS.md) in their sequence; the first "no" is the
 // answer, and then nothing that is lent changes.
+#![tactic(auto)]
+
 mod answers;
 mod section;
 

@@ -1,4 +1,6 @@
 // A song section (document 02, L6): so many renders one after the other.
+#![tactic(auto)]
+
 ghost use Rattle.std.specs.Prelude.{◌≡◌, ◌*◌, ◌≤◌, leb};
 ghost use Rattle.ranges.specs.Ranges.{ranges_of};
 ghost use Rattle.state.specs.State.{state_of};

@@ -1,5 +1,7 @@
 // Runs stored cases and writes what the proved code answers to each, a line a case. The stored output is the oracle's answers
 // (compare/run store), so that the gate holds the two together.
+#![tactic(auto)]
+
 ghost use Rattle.std.specs.Prelude.{◌+◌, ◌≤◌, length};
 
 use adpcm::{AdpcmAnswer, AdpcmContext, Sample};

@@ -1,4 +1,6 @@
 // The reply of an update, section by section into a lent slice.
+#![tactic(auto)]
+
 ghost use Rattle.std.specs.Prelude.{◌≡◌, ◌+◌, ◌*◌, ◌/◌, ◌^◌, ◌≤◌, ◌<◌, length};
 ghost use Rattle.rows.specs.Rows.{put};
 ghost use Rattle.params.specs.Sizes.{Allowed, info_bytes, reply_length};

@@ -1,4 +1,6 @@
 // The sections of a reply that hold a record for each pool, voice or effect, written into a lent slice.
+#![tactic(auto)]
+
 mod bytes;
 mod effects;
 mod pools;

@@ -1,4 +1,6 @@
 // dsp.rs's resampler: a cubic through four neighbours, to the bit, in Rust's order of operations.
+#![tactic(auto)]
+
 ghost use Rattle.std.specs.Prelude.{◌≡◌, ◌^◌, ◌<◌, ◌≤◌, min, T, ◌++◌, length, drop, pos};
 ghost use Rattle.std.specs.Float.{binary32};
 ghost use Rattle.std.specs.Float.Ieee.{of_int, to_unsigned};

@@ -1,4 +1,6 @@
 // Whether the rows of each kind are whole: of voices, mixes, sinks, and splitters with destinations.
+#![tactic(auto)]
+
 mod desk;
 mod limits;
 mod voices;

@@ -1,1 +1,2 @@
 // A voice and its rows are the same thing, both ways: the crate is its specs/.
+#![tactic(auto)]

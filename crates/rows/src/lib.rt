@@ -1,4 +1,6 @@
 // Rows of a lent slice, of any width: copied out of it and back into it, at each element type.
+#![tactic(auto)]
+
 mod bytes;
 
 ghost use Rattle.std.specs.Prelude.{◌+◌, ◌≤◌, ◌≡◌, length};

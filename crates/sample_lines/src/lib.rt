@@ -1,4 +1,5 @@
 // Samples in decimal on standard output, a frame of 14 to a line.
+#![tactic(auto)]
 
 // A whole sample as its number.
 fn print_sample(x: f32) {

@@ -1,1 +1,2 @@
 // Sessions, and what their replies, rounds and frames depend on: the crate is its specs/.
+#![tactic(auto)]

@@ -1,1 +1,2 @@
 // Sessions that are computed: the crate is its specs/.
+#![tactic(auto)]

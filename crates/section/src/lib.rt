@@ -1,12 +1,14 @@
 // The splitter section, read by one reader that holds the block and its place. The place moves with every record: what reads a record takes
 // the reader and gives it back moved on. What a record means is in the functions on slice and number of `splitters`, which these call.
+#![tactic(auto)]
+
 ghost use Rattle.std.specs.Prelude.{◌≡◌, ◌+◌, ◌*◌, ◌≤◌, ◌<◌, ◌^◌, length};
 ghost use Rattle.fields.specs.Fields.{field_at};
 ghost use Rattle.splitters.specs.Lists.{lists, splitter_step, splitters_from};
 ghost use Rattle.splitters.specs.Destinations.{stride_of, left, destination_step, destinations_from};
 ghost use Rattle.splitters.specs.Section.{Sized, records_from, records_of, splitters_of};
 
-#[derive(Drop)]
+#[derive(Clone, Copy)]
 pub struct Reader<'a> {
     pub block: &'a [u8],
     pub at: usize,

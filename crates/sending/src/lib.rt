@@ -1,4 +1,6 @@
 // The last part of mixer.rs `render_voice` on the state's slices: a voice's ramp and its sends.
+#![tactic(auto)]
+
 ghost use Rattle.std.specs.Prelude.{◌≡◌, ◌+◌, ◌*◌, ◌≤◌, length};
 ghost use Rattle.desk_rows.specs.DeskRows.{Mixes, Lists};
 ghost use Rattle.voice_sends.specs.Sending.{Ids, Rowed, ramped_rows, passing, to_mix, by_splitter, sends_of};

@@ -1,4 +1,6 @@
 // A row sent to several rows of the mix buffers: the inner loops of mixer.rs `render_voice` and `render_mixes`.
+#![tactic(auto)]
+
 ghost use Rattle.std.specs.Prelude.{◌≡◌, ◌^◌, ◌≤◌, ◌<◌, length};
 ghost use Rattle.sends.specs.Sends.{spread, gain_at, scaled_at};
 

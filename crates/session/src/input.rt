@@ -5,7 +5,7 @@ ghost use Rattle.session.specs.Input.{parameters_of, memory_size, memory_of, cal
 use params::Params;
 
 // What stands at the front of the calls: a render is one byte; an update is one, the size of reply that it expects, and its input after the input's size.
-#[derive(Drop)]
+#[derive(Clone, Copy)]
 pub enum Call {
     Render,
     Update { expected: u32, size: u32 },

@@ -1,4 +1,6 @@
 // The session program's work, on slices: its input, question 10, and the lines that it prints.
+#![tactic(auto)]
+
 mod digits;
 mod input;
 mod lines;

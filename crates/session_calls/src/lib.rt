@@ -1,4 +1,6 @@
 // A call of a session: run on a renderer, and its line written at the front of a lent slice.
+#![tactic(auto)]
+
 ghost use Rattle.std.specs.Prelude.{◌≡◌, [], ◌≤◌, length, take};
 ghost use Rattle.state.specs.State.{state_of};
 ghost use Rattle.renderer.specs.Answers.{update_number, update_size, render_number};
@@ -13,7 +15,7 @@ use session::Call;
 const BASE: u64 = 0x10000;
 
 // A refusal's number, or 0; and the length of the call's line.
-#[derive(Drop)]
+#[derive(Clone, Copy)]
 pub struct Line {
     pub number: u32,
     pub size: usize,

@@ -1,4 +1,6 @@
 // A session as its program runs it: a renderer is opened, the calls are run in turn, and a line is printed for each as it is run.
+#![tactic(auto)]
+
 mod room;
 mod turns;
 

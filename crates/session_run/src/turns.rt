@@ -7,7 +7,7 @@ ghost use Rattle.session_calls.specs.Steps.{held};
 ghost use Rattle.session_run.specs.Lines.{first_step, call_lines, lines_of, LineAt, turned, turn_of};
 
 // What a call gives to the run: whether it goes on, and the call's size.
-#[derive(Drop)]
+#[derive(Clone, Copy)]
 struct After {
     going: bool,
     size: usize,

@@ -1,5 +1,7 @@
 // Runs stored sessions, each after its 32-bit length. The stored output is what the oracle prints for them (compare/run store), so that the gate holds
 // the two together.
+#![tactic(auto)]
+
 ghost use Rattle.std.specs.Prelude.{◌≤◌, length};
 
 // Runs the session that stands at a place, and gives its length.

@@ -1,10 +1,12 @@
 // mixer.rs `write_sink`, for the inputs of a device sink: what it makes of the mix buffers.
+#![tactic(auto)]
+
 ghost use Rattle.std.specs.Prelude.{◌≡◌, ◌++◌, ◌+◌, ◌*◌, ◌^◌, ◌≤◌, ◌<◌, length, drop, get_or, set};
 ghost use Rattle.std.specs.Float.{nan};
 ghost use Rattle.sink.specs.Sink.{Silent, row_or, to_unit, frames, factors_of, side, sink_of};
 
 // The Rust's `Option<[f32; 4]>`: the default factors, or four given ones.
-#[derive(Drop)]
+#[derive(Clone, Copy)]
 pub enum Downmix {
     Default,
     Given(f32, f32, f32, f32),

@@ -15,7 +15,7 @@ use adpcm::{AdpcmContext, Sample};
 use plan::{Act, Decode, Source};
 
 // What an act leaves: how many samples it made, and the ADPCM context.
-#[derive(Drop)]
+#[derive(Clone, Copy)]
 pub struct Played {
     pub made: usize,
     pub adpcm: AdpcmContext,

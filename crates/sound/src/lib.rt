@@ -1,4 +1,6 @@
 // The sound of a fetch of mixer.rs: performs the acts of a plan on the bytes of sample memory, a channel at a time.
+#![tactic(auto)]
+
 mod act;
 mod channel;
 mod pcm;

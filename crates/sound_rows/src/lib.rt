@@ -1,4 +1,6 @@
 // The row of a voice's sound: 3 contexts (pred_scale, and the 16 bits of history0 and history1) and 18 floats.
+#![tactic(auto)]
+
 ghost use Rattle.std.specs.Prelude.{◌≡◌, ◌+◌, ◌≤◌, length};
 ghost use Rattle.rows.specs.Rows.{put};
 ghost use Rattle.sound_rows.specs.SoundRow.{words_of_context, sound_of, contexts_of, history_of};

@@ -1,6 +1,8 @@
 // mixer.rs `update_splitters`, on the bytes of the splitter section and on the rows of ns splitters and nd destinations.
 // Words: for each splitter 129, its list's length and its list; then for each destination two, used and mix.
 // Floats: for each destination 48, its volumes and its previous volumes.
+#![tactic(auto)]
+
 mod destinations;
 mod lists;
 

@@ -1,4 +1,6 @@
 // Where each kind of row stands in a renderer's state, which is five lent slices: words, longs, floats, contexts and history.
+#![tactic(auto)]
+
 ghost use Rattle.std.specs.Prelude.{◌≡◌};
 ghost use Rattle.params.specs.Sizes.{Allowed};
 ghost use Rattle.state.specs.State.{places_of, At};
@@ -7,7 +9,7 @@ use params::Params;
 
 // How many mixes there are; where the rows of mixes, sinks, and splitters with destinations begin in the words; where those of channel resources,
 // mixes, sinks and destinations begin in the floats; and how long each slice is.
-#[derive(Drop)]
+#[derive(Clone, Copy)]
 pub struct Places {
     pub mixes: usize,
     pub mix_words: usize,

@@ -1,4 +1,6 @@
 // Voice k in a renderer's state: loaded, stored, and what its turn does before it fetches (mixer.rs `render_voice`).
+#![tactic(auto)]
+
 ghost use Rattle.std.specs.Prelude.{◌≡◌, true, ◌+◌, ◌*◌, ◌≤◌, ◌<◌, length};
 ghost use Rattle.rows.specs.Rows.{part, put};
 ghost use Rattle.params.specs.Sizes.{Allowed};

@@ -1,4 +1,6 @@
 // mixer.rs `render_mixes`, what one sub-mix does: its buffers go to its destination, or by its splitter's list.
+#![tactic(auto)]
+
 ghost use Rattle.std.specs.Prelude.{◌≡◌, ◌+◌, ◌*◌, ◌%◌, max, ◌≤◌, ◌<◌, length};
 ghost use Rattle.rows.specs.Folds.{up_to};
 ghost use Rattle.desk_rows.specs.DeskRows.{Mixes, Lists, mix_buffers, mix_splitter, mix_offset, list_length, list_entry};

@@ -2,6 +2,8 @@
 // `adpcm_thp` of ffmpeg gives for the same clips (compare/thp).
 // A clip: the size of its data (4 bytes), 16 coefficients of 16 bits, the data. The context is 0. All clips together have at most 4,096
 // bytes.
+#![tactic(auto)]
+
 ghost use Rattle.std.specs.Prelude.{◌≤◌, length};
 
 use adpcm::{AdpcmAnswer, AdpcmContext, Sample};

@@ -1,4 +1,6 @@
 // One frame tried with each header: the one that is kept has the least sum of squared differences, the lowest header byte first.
+#![tactic(auto)]
+
 ghost use Rattle.std.specs.Prelude.{◌≡◌, ◌≤◌, ◌<◌, ◌*◌, min, length};
 ghost use Rattle.trial.specs.Trial.{frame_samples, most_square, most_error, sum_of, error_of};
 ghost use Rattle.trial.specs.Kept.{better_of, Keeps};
@@ -57,7 +59,7 @@ fn try_header(samples: &[i16], b: u8, coefficients: &[i16; 16], h0: i16, h1: i16
 }
 
 // A header and its sum.
-#[derive(Drop)]
+#[derive(Clone, Copy)]
 pub struct Kept {
     pub header: u8,
     pub error: u64,

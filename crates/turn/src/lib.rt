@@ -1,5 +1,7 @@
 // A voice's turn in a render (mixer.rs `render_voice`), as far as it moves the voice's position. No sample is looked at:
 // the plan of the turn's fetch says what is read, and the crate `playing` makes the sound of it.
+#![tactic(auto)]
+
 ghost use Rattle.std.specs.Prelude.{◌≡◌, ℕ, ◌<◌, ◌≤◌, max, T, List};
 ghost use Rattle.floats.specs.Unit.{in_unit};
 ghost use Rattle.resample.specs.Defs.{next_of};
@@ -13,7 +15,7 @@ use voice::{Prepared, Queue, Voice};
 
 // What a render gives to each voice: its samples, the renderer's rate, and whether the revision is 8 or later. The ranges of sample
 // memory are lent beside it.
-#[derive(Drop)]
+#[derive(Clone, Copy)]
 pub struct Render {
     pub sample_count: u32,
     pub sample_rate: u32,
@@ -21,7 +23,7 @@ pub struct Render {
 }
 
 // A turn: the voice after it, and what its sound is made from. `fraction` is the voice's before the turn; the volume ramps from `from` to `to`.
-#[derive(Drop)]
+#[derive(Clone, Copy)]
 pub struct Turn {
     pub voice: Voice,
     pub plan: Plan,

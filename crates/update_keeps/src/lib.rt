@@ -1,1 +1,2 @@
 // An update leaves a whole state whole: the crate is its specs/.
+#![tactic(auto)]

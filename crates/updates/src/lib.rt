@@ -1,4 +1,6 @@
 // An update of the whole state, and its reply (mod.rs `Renderer::update`).
+#![tactic(auto)]
+
 mod routes;
 
 ghost use Rattle.std.specs.Prelude.{◌≡◌, ◌+◌, ◌*◌, ◌≤◌, length, get_or};

@@ -1,4 +1,6 @@
 // A voice of mixer.rs: its wave buffers, its queue, what a render does before it fetches.
+#![tactic(auto)]
+
 mod play;
 mod queue;
 mod ready;
@@ -32,7 +34,7 @@ pub const ADPCM: u32 = 6;
 
 // The position side of the Rust's `Voice`. Its ADPCM context and history, which depend on sound, stand apart (`Sound`).
 // An i32 of the Rust is held as its 32 bits; format and decoding, 8 and 16 bits there, are whole words.
-#[derive(Drop)]
+#[derive(Clone, Copy)]
 pub struct Voice {
     pub in_use: bool,
     pub fresh: bool,

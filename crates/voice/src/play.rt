@@ -2,7 +2,7 @@
 ghost use Rattle.std.specs.Prelude.{◌≡◌};
 ghost use Rattle.voice.specs.Play.{set_play};
 
-#[derive(Drop)]
+#[derive(Clone, Copy)]
 pub enum Play {
     Started,
     Stopped,

@@ -6,7 +6,7 @@ ghost use Rattle.voice.specs.Queue.{no_buffer, next_slot, spot_of, queue_at, end
 use crate::WaveBuffer;
 
 // `loops` is the 32 bits of the Rust's i32. Each counter goes round at its own width.
-#[derive(Drop)]
+#[derive(Clone, Copy)]
 pub struct Queue {
     pub buffers: [WaveBuffer; 4],
     pub valid: [bool; 4],
@@ -18,7 +18,7 @@ pub struct Queue {
 }
 
 // Where in its queue a voice plays, and how far: what a fetch moves. The wave buffers stay as they are.
-#[derive(Drop)]
+#[derive(Clone, Copy)]
 pub struct Spot {
     pub valid: [bool; 4],
     pub index: u32,

@@ -7,7 +7,7 @@ use crate::queue::next_slot;
 use crate::{Play, Queue, Voice};
 
 // `ready`: there is a buffer to play. `reset`: the voice has stopped, and its ADPCM context and history become zeros.
-#[derive(Drop)]
+#[derive(Clone, Copy)]
 pub struct Prepared {
     pub voice: Voice,
     pub ready: bool,
@@ -15,7 +15,7 @@ pub struct Prepared {
 }
 
 // What a flush walk leaves, and the turns that it took.
-#[derive(Drop)]
+#[derive(Clone, Copy)]
 pub struct Flushed {
     pub queue: Queue,
     pub turns: u32,

@@ -5,12 +5,12 @@ ghost use Rattle.voice.specs.Sound.{silent_sound, sound_after};
 use adpcm::AdpcmContext;
 
 // The last three samples of each of six channels.
-#[derive(Drop)]
+#[derive(Clone, Copy)]
 pub struct History {
     pub samples: [f32; 18],
 }
 
-#[derive(Drop)]
+#[derive(Clone, Copy)]
 pub struct Sound {
     pub adpcm: AdpcmContext,
     pub history: History,

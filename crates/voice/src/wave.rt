@@ -5,7 +5,7 @@ ghost use Rattle.voice.specs.Wave.{parse_of, both_fit, offsets_valid};
 use adpcm::Sample;
 
 // `loop_count` is the 32 bits of the Rust's i32.
-#[derive(Drop)]
+#[derive(Clone, Copy)]
 pub struct WaveBuffer {
     pub addr: u64,
     pub size: u64,

@@ -15,7 +15,7 @@ fn source_of(v: Voice, buffers_v2: bool) -> Source {
 }
 
 // A voice after a fetch's plan, and the rounds; 255 where a fetch requires more of it.
-#[derive(Drop)]
+#[derive(Clone, Copy)]
 struct Moved {
     voice: Voice,
     rounds: u32,

@@ -1,5 +1,7 @@
 // Exports of a voice by its rows for the driver compare/voice.rs, which holds flush, prepare and fetch to the oracle. No part of the
 // interface for titles. Where the rows are not a voice's, the answer says so and nothing changes.
+#![tactic(auto)]
+
 mod fetches;
 
 use voice::WaveBuffer;
@@ -12,7 +14,7 @@ pub const VOICE_LONGS: usize = 14;
 pub const VOICE_FLOATS: usize = 4;
 
 #[repr(C)]
-#[derive(Drop)]
+#[derive(Clone, Copy)]
 pub struct VoiceContext {
     pub pred_scale: u16,
     pub history0: i16,
@@ -73,7 +75,7 @@ pub extern "C" fn probe_prepare(
 }
 
 // A voice after its flush walk, and the turns; 5 where it has no such base slot.
-#[derive(Drop)]
+#[derive(Clone, Copy)]
 struct Walked {
     voice: voice::Voice,
     turns: u32,

@@ -1,4 +1,6 @@
 // One voice's record of an update, 0x170 bytes, and what it makes of the voice (mixer.rs `update_voices`).
+#![tactic(auto)]
+
 mod buffers;
 mod numbers;
 

@@ -1,4 +1,6 @@
 // The turn of one voice in a render (mixer.rs `render_voice`), on the state's slices and the mix buffers.
+#![tactic(auto)]
+
 ghost use Rattle.std.specs.Prelude.{◌≡◌, ℕ, ◌+◌, ◌<◌};
 ghost use Rattle.state.specs.State.{state_of};
 ghost use Rattle.state_voices.specs.StateVoices.{Playable};

@@ -1,4 +1,6 @@
 // A voice's rows in the state: its words, longs and floats.
+#![tactic(auto)]
+
 mod idle_row;
 mod voice_row;
 mod wave_row;

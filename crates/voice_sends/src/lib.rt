@@ -1,4 +1,6 @@
 // The last part of mixer.rs `render_voice`: a voice's ramp, and its sends into the mix buffers.
+#![tactic(auto)]
+
 mod gains;
 mod mix;
 mod ramps;

@@ -1,5 +1,7 @@
 // The turn of a voice that is ready (mixer.rs `render_voice`), on the state's slices and the mix buffers.
 // What moves the voice's position (`turn::plan_turn`) is handed no sample.
+#![tactic(auto)]
+
 ghost use Rattle.std.specs.Prelude.{◌≡◌, true, false, ℕ, ◌+◌, ◌*◌, ◌≤◌, length, take};
 ghost use Rattle.rows.specs.Rows.{put};
 ghost use Rattle.state.specs.State.{state_of};

@@ -1,4 +1,6 @@
 // What an update makes of the rows of all voices (mixer.rs `update_voices`).
+#![tactic(auto)]
+
 ghost use Rattle.std.specs.Prelude.{◌≡◌, ◌*◌, ◌<◌};
 ghost use Rattle.rows.specs.Rows.{put};
 ghost use Rattle.voice.specs.Sound.{silent_sound};

@@ -1,4 +1,6 @@
 // Whether a renderer's state is whole (question 4), and whether its counts are allowed (questions 1 and 2).
+#![tactic(auto)]
+
 ghost use Rattle.std.specs.Prelude.{◌≡◌, length};
 ghost use Rattle.params.specs.Sizes.{Allowed};
 ghost use Rattle.state.specs.State.{At, state_of, words_of, floats_of};
