@@ -27,6 +27,8 @@ equal_whole (fin t n g) (fin u m e) s c v h =
     eq_of_mul-eq-mul_right (down g) (down_pos g) (m * up e) (c * down e)
     (sym a ∙ ap (λ (z : ℕ). z * down e) (sym (mul-one (n * up g)) ∙ v.1) ∙ mul_right_comm c (down g) (down e)) in
     sym (floor_stays u m e (ap (λ (z : ℕ). z % down e) b ∙ mul-mod_left c (down e)))
+equal_whole nan _ s c v h = elim v [ ]
+equal_whole (inf _) _ s c v h = elim v [ ]
 
 level_true : (s : Bool) (a b : ℕ) → a ≡ b → level s a s b ≡ true
 level_true true a b h = ap (λ (t : Bool). t && true) (eq-eqb a b h)
@@ -39,6 +41,8 @@ whole_equal (fin t n g) s m e c v h =
     ap (λ (z : Bool). level z (n * up g * down e) s (m * up e * down g)) v.0
     ∙ level_true s (n * up g * down e) (m * up e * down g)
     (ap (λ (z : ℕ). z * down e) (sym (mul-one (n * up g)) ∙ v.1) ∙ mul_right_comm c (down g) (down e) ∙ ap (λ (z : ℕ). z * down g) (sym h))
+whole_equal nan s m e c v h = elim v [ ]
+whole_equal (inf _) s m e c v h = elim v [ ]
 
 no : true ≡ false → ⊥
 no h = subst T h tt

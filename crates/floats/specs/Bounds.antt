@@ -22,12 +22,22 @@ unfolding is_nan le lt eq
 not_lt (inf true) (fin t n d) p q h = absurd (subst T h tt)
 not_lt (inf false) (fin t n d) p q h = tt
 not_lt (fin s m e) (fin t n d) p q h = turned s t (m * up e * down d) (n * up d * down e) h
+not_lt nan y p q h = elim p [ ]
+not_lt (inf false) nan p q h = elim q [ ]
+not_lt (inf false) (inf _) p q h = elim q [ ]
+not_lt (inf true) nan p q h = elim q [ ]
+not_lt (inf true) (inf _) p q h = elim q [ ]
+not_lt (fin s m e) nan p q h = elim q [ ]
+not_lt (fin s m e) (inf _) p q h = elim q [ ]
 
 pub not_gt : (x y : Float) → T (finite x) → T (not (is_nan y)) → lt x y ≡ false → T (le y x)
 unfolding is_nan le lt eq
 not_gt (fin s m e) (inf true) p q h = tt
 not_gt (fin s m e) (inf false) p q h = absurd (subst T h tt)
 not_gt (fin s m e) (fin t n d) p q h = turned s t (m * up e * down d) (n * up d * down e) h
+not_gt nan y p q h = elim p [ ]
+not_gt (inf _) y p q h = elim p [ ]
+not_gt (fin s m e) nan p q h = elim q [ ]
 
 pub le_self : (x : Float) → T (finite x) → T (le x x)
 unfolding lt is_nan
@@ -36,6 +46,8 @@ le_self (fin s m e) f = not_lt (fin s m e) (fin s m e) tt tt (go s (m * up e * d
     go : (s : Bool) (a : ℕ) → below s a s a ≡ false
     go true a = le-ltb a a (le_refl a)
     go false a = le-ltb a a (le_refl a)
+le_self nan f = elim f [ ]
+le_self (inf _) f = elim f [ ]
 
 -- ---- what a clamp gives
 -- a clamp between two finite bounds lies between them, or is a NaN

@@ -149,3 +149,5 @@ rest_in_unit (fin false (suc m) (negsuc k)) f n h =
     let C = nat_le (2 ^ suc k) (2 ^ 149) in
     let D = ltb (suc m * 1) (2 ^ 128 * 2 ^ suc k) in
     part_in (suc m) k (ltb→lt (suc m) (2 ^ 24) (and_r A B (and_l (A && B) C (and_l (A && B && C) D f)))) (leb→le (2 ^ suc k) (2 ^ 149) (and_r (A && B) C (and_l (A && B && C) D f))) (suc m * 1 % 2 ^ suc k == 0) refl
+rest_in_unit nan f n h = elim n [ ]
+rest_in_unit (inf _) f n h = elim n [ ]

@@ -165,6 +165,7 @@ unit_upto x h =
   where
     or_l : (p q : Bool) → T p → T (p || q)
     or_l true q t = tt
+    or_l false q t = elim t [ ]
 
 -- ---- what follows
 pub upto_finite : (x : Float) (n : ℕ) → Upto n x → T (finite x)

@@ -158,3 +158,5 @@ sub_same (fin s m e) f =
     go : (s : Bool) → HasValue (add binary32 (fin s m e) (fin (not s) m e)) false 0 1
     go true = none_neg (m * up e * down e) (down e * down e) (mul-pos (down_pos e) (down_pos e))
     go false = none true (m * up e * down e) (down e * down e) (mul-pos (down_pos e) (down_pos e))
+sub_same nan f = elim f [ ]
+sub_same (inf _) f = elim f [ ]

@@ -43,6 +43,8 @@ is_odd f s m e t =
 beq_is : (s t : Bool) → T (beq s t) → s ≡ t
 beq_is true true h = refl
 beq_is false false h = refl
+beq_is false true h = elim h [ ]
+beq_is true false h = elim h [ ]
 
 or_l : (a b : Bool) → b ≡ false → T (a || b) → T a
 or_l true b h t = tt

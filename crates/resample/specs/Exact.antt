@@ -97,6 +97,8 @@ wholes (fin s m e) t =
       record { sign = s; size = a; value = (refl, mul-one (m * up e) ∙ v); bound = in_range_lem s a (and_r (A && B && C) D t) },
       signs s m a (λ z. no_value m (up e) (v ∙ ap (λ (k : ℕ). k * down e) z ∙ zero-mul (down e)) (up_pos e)) (and_r (A && B) C (and_l (A && B && C) D t)),
     )
+wholes nan t = elim t [ ]
+wholes (lib.Ieee.inf _) t = elim t [ ]
 
 -- ---- the place of output k is k, as long as k is a float
 module _ (k : ℕ) (l : k ≤ 2 ^ 24) where

@@ -1,0 +1,10 @@
+-- `fields::eight` meets its contract: `le` at 4 + 4. Assumes nothing.
+use native.Mathlib.Omega.{arith}
+use borrow.Author.Rules.{rules}
+use Rattle.fields.specs.Reads.{le_split}
+use Rattle.fields.proofs.eight.Goals as goal
+
+pub returns : goal.returns
+returns c =
+    let a = c.args in
+    omega (arith, le_split 4 4 a.d.now a.o)

@@ -1,0 +1,10 @@
+-- `fields::four` meets its contract: `le` at 2 + 2. Assumes nothing.
+use native.Mathlib.Omega.{arith}
+use borrow.Author.Rules.{rules}
+use Rattle.fields.specs.Reads.{le_split}
+use Rattle.fields.proofs.four.Goals as goal
+
+pub returns : goal.returns
+returns c =
+    let a = c.args in
+    omega (arith, le_split 2 2 a.d.now a.o)

@@ -1,0 +1,21 @@
+-- `fields::rest` meets its contract: past the end nothing is left. Assumes nothing.
+use mathlib.Core.Path.{sym}
+use Prim.Native.Nat.{◌-◌}
+use native.Mathlib.Omega.{arith}
+use borrow.Author.Rules.{rules}
+use lib.ListN.{length, drop, drop_of_length-le, length-drop}
+use lib.Seq.{take_all}
+use Rattle.fields.specs.Fields.{rest_of}
+use Rattle.fields.proofs.rest.Goals as goal
+
+pub returns-then-at-input : goal.returns-then-at-input
+unfolding rest_of
+returns-then-at-input c =
+    let a = c.args in
+    take_all (length a.input.now - a.at) (drop a.at a.input.now) (simp length-drop (omega arith))
+
+pub returns-else-at-input : goal.returns-else-at-input
+unfolding rest_of
+returns-else-at-input c =
+    let a = c.args in
+    sym (drop_of_length-le a.input.now {i = a.at} (omega arith))

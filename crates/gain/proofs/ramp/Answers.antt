@@ -1,0 +1,26 @@
+-- `gain::ramp` meets its contract: its test is the definition's, and so is the step; a gain that does not move is level. Assumes nothing.
+use Rattle.std.proofs.Common.{sym, ap, ◌∙◌, rules}
+use borrow.Author.Tests.{not-false}
+use lib.Ieee.{Float, of_bits}
+use Rattle.gain.specs.Gain.{ramp_of, ramped}
+use Rattle.gain.specs.Laws.{scaled_is}
+use Rattle.gain.proofs.ramp.Goals as goal
+
+pub returns-then-both : goal.returns-then-both
+unfolding ramp_of of_bits
+returns-then-both c = simp (sym c.both.ensures ∙ c.if-both.true)
+
+pub returns-then-not-steady : goal.returns-then-not-steady
+unfolding ramp_of of_bits
+returns-then-not-steady c =
+    let a = c.args in
+    simp (sym c.both.ensures ∙ c.if-both.false)
+    (c.ramp_by.ensures ∙ ap (λ (x : Float). ramped x a.from a.s.now) c.step_of-step.ensures)
+
+pub returns : goal.returns
+unfolding ramp_of of_bits
+returns c =
+    let a = c.args in
+    let still = c.steady.ensures c.if-not-steady.false in
+    simp (sym c.both.ensures ∙ c.if-both.false)
+    (c.ramp_level.ensures ∙ scaled_is _ _ still _ ∙ ap (λ (x : Float). ramped x a.from a.s.now) c.step_of-step.ensures)

@@ -1,0 +1,27 @@
+-- `ranges::near` meets its contract: what is asked of the ranges that are left is what was asked of all. Assumes nothing.
+use Rattle.std.proofs.Common.{◌≡◌, ◌-◌, length, sym, refl, ◌∙◌, arith, rules}
+use borrow.Author.Tests.{not-true, not-false}
+use Rattle.ranges.specs.Ranges.{ranges_of}
+use Rattle.ranges.specs.Questions.{near_of}
+use Rattle.ranges.proofs.Tests.{and_passed, and_failed}
+use Rattle.ranges.proofs.Walk.{Walk, walk_begin, walk_here, walk_more, walk_end}
+use Rattle.ranges.proofs.near.Goals as goal
+
+pub loop-i-init : goal.loop-i-init
+loop-i-init c = walk_begin refl
+
+pub returns-then-not-ends_by : goal.returns-then-not-ends_by
+unfolding near_of
+returns-then-not-ends_by c =
+    let walk = c.loop-i.invariant in
+    and_failed _ (sym c.ends_by.ensures ∙ c.if-not-ends_by.true) ∙ walk_here walk (omega arith)
+
+pub loop-i-preserved : goal.loop-i-preserved
+unfolding near_of
+loop-i-preserved c =
+    let walk = c.loop-i.invariant in
+    walk_more walk (omega arith) (λ rs e. and_passed _ (sym c.ends_by.ensures ∙ c.if-not-ends_by.false) ∙ e)
+
+pub returns : goal.returns
+unfolding near_of
+returns c = walk_end c.loop-i.invariant (omega arith)

@@ -1,0 +1,11 @@
+use Rattle.std.proofs.Common.{◌-◌, ap, ◌∙◌, arith, rules}
+use lib.Ieee.{Float}
+use Rattle.resample.specs.Defs.{next_of, sample_from, index_at, sample_at}
+use Rattle.resample.proofs.Filling.{Filling, begin, more, whole}
+use Rattle.resample.proofs.fill_between.Given as goal
+
+abbrev pub invariant-loop-k : goal.invariant-loop-k
+invariant-loop-k l = Filling l.input l.ratio l.fraction l.count l.initial.out l.out l.k
+
+abbrev pub decreases-loop-k : goal.decreases-loop-k
+decreases-loop-k l = l.count - l.k

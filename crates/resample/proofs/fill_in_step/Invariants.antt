@@ -1,0 +1,11 @@
+use Rattle.std.proofs.Common.{◌-◌, sym, ◌∙◌, arith, rules}
+use lib.Ieee.{of_bits}
+use Rattle.resample.specs.InStep.{in_step_sample, in_step_next}
+use Rattle.resample.proofs.Filling.{Filling, begin, more, whole}
+use Rattle.resample.proofs.fill_in_step.Given as goal
+
+abbrev pub invariant-loop-k : goal.invariant-loop-k
+invariant-loop-k l = Filling l.input l.ratio l.fraction l.count l.initial.out l.out l.k
+
+abbrev pub decreases-loop-k : goal.decreases-loop-k
+decreases-loop-k l = l.count - l.k

@@ -1,0 +1,8 @@
+-- `resample::needed` meets its contract: it cuts the place as the definition does. Assumes nothing.
+use Rattle.std.proofs.Common.{rules}
+use Rattle.resample.specs.Defs.{needed_of}
+use Rattle.resample.proofs.needed.Goals as goal
+
+pub returns : goal.returns
+unfolding needed_of
+returns c = cc

@@ -1,0 +1,12 @@
+-- `desk::sinks_whole` meets its contract: it is one test of all rows. Assumes nothing.
+use native.Mathlib.Omega.{arith}
+use borrow.Author.Rules.{rules}
+use Rattle.row_tests.specs.Desk.{sinks_whole, sink_table}
+use Rattle.row_tests.proofs.desk.sinks_whole.Goals as goal
+
+pub rows_within-requires : goal.rows_within-requires
+rows_within-requires c = (sink_table, omega arith)
+
+pub returns : goal.returns
+unfolding sinks_whole
+returns c = c.rows_within.ensures

@@ -1,0 +1,12 @@
+use Prim.Native.Nat.{ℕ, ◌+◌, ◌-◌, ◌*◌}
+use native.Mathlib.Omega.{arith}
+use Rattle.rows.specs.Folds.{row_end}
+use Rattle.row_tests.specs.Tests.{Passing, pass_begin, pass_more, pass_cut, pass_end}
+use Rattle.row_tests.specs.Limits.{within, rows_within}
+use Rattle.row_tests.proofs.limits.rows_within.Given as goal
+
+abbrev pub invariant-loop-i : goal.invariant-loop-i
+invariant-loop-i l = Passing (λ (l.i : ℕ). within l.s (l.base + l.i * l.w) l.fields l.limits) l.n l.i
+
+abbrev pub decreases-loop-i : goal.decreases-loop-i
+decreases-loop-i l = l.n - l.i

@@ -1,0 +1,17 @@
+-- `rows::copy_out_u32` meets its contract: `Copying` holds at each turn. Assumes nothing.
+use mathlib.Core.Path.{refl}
+use Prim.Native.Nat.{◌-◌}
+use native.Mathlib.Omega.{arith}
+use borrow.Author.Rules.{rules}
+use lib.ListN.{length}
+use Rattle.rows.proofs.Copying.{Copying, begin, more, end_out}
+use Rattle.rows.proofs.copy_out_u32.Goals as goal
+
+pub loop-k-init : goal.loop-k-init
+loop-k-init c = begin _ 0 _ _ _ (omega arith)
+
+pub loop-k-preserved : goal.loop-k-preserved
+loop-k-preserved c = more c.loop-k.invariant 0 _ _ (omega arith) refl (omega arith) (omega arith) (omega arith)
+
+pub returns : goal.returns
+returns c = end_out c.loop-k.invariant refl refl (omega arith) (omega arith)

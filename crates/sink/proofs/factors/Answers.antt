@@ -1,0 +1,14 @@
+-- `sink::factors` meets its contract: the default's literals are the nearest floats. Assumes nothing.
+use mathlib.Core.Path.{sym, ap}
+use borrow.Author.Rules.{rules}
+use lib.Ieee.{of_bits, round}
+use Rattle.sink.specs.Sink.{factors_of}
+use Rattle.sink.proofs.factors.Goals as goal
+
+pub returns-in-Default : goal.returns-in-Default
+unfolding factors_of of_bits round
+returns-in-Default c = sym (ap factors_of c.enum_told-1.given.1)
+
+pub returns-in-Given : goal.returns-in-Given
+unfolding factors_of
+returns-in-Given c = sym (ap factors_of c.downmix-1.given.1)

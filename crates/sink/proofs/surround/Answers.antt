@@ -1,0 +1,24 @@
+-- `sink::surround` meets its contract: `Framing` holds at each turn. Assumes nothing.
+use Prim.Native.Nat.{◌-◌}
+use native.Mathlib.Omega.{arith}
+use borrow.Author.Rules.{rules}
+use lib.ListN.{get_or}
+use lib.Ieee.{nan}
+use Rattle.sink.specs.Sink.{side}
+use Rattle.sink.proofs.Framing.{Framing, begin, room, more, end}
+use Rattle.sink.proofs.surround.Goals as goal
+
+pub loop-i-init : goal.loop-i-init
+loop-i-init c = begin _ _ _ _
+
+pub put_frame-requires : goal.put_frame-requires
+put_frame-requires c =
+    room c.loop-i.invariant (omega arith) c.requires.0
+
+pub loop-i-preserved : goal.loop-i-preserved
+loop-i-preserved c =
+    more c.loop-i.invariant (omega arith) c.requires.0 _ _ _ c.one_side-l.ensures
+    c.one_side-r.ensures c.put_frame.ensures
+
+pub returns : goal.returns
+returns c = end c.loop-i.invariant (omega arith)
