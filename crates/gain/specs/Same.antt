@@ -73,3 +73,8 @@ same f (fin s (suc m) e) (fin t (suc n) d) p q h z =
     let r = cross (suc m) (suc n) e d (is_odd f s m e p) (is_odd f t n d q) a in
     let g : s ≡ t = beq_is s t (or_l (beq s t) (suc m * up e * down d == 0) (ne_eqb _ _ (λ (k : suc m * up e * down d ≡ 0). omega arith)) (and_r (suc m * up e * down d == suc n * up d * down e) (beq s t || suc m * up e * down d == 0) h)) in
     λ i. fin (g i) (r.0 i) (r.1 i)
+same f lib.Ieee.nan y p q h n = elim h [ ]
+same f (inf s) lib.Ieee.nan p q h n = elim h [ ]
+same f (inf s) (fin t _ d) p q h n = elim h [ ]
+same f (fin s m e) lib.Ieee.nan p q h n = elim h [ ]
+same f (fin s m e) (inf t) p q h n = elim h [ ]

@@ -9,8 +9,7 @@ use Rattle.fields.proofs.byte_at.Goals as goal
 
 pub bounds-d-o : goal.bounds-d-o
 bounds-d-o c =
-    let a = c.args in
-    omega (arith, passed (a.o + 1) (length a.d.now) c.inside.ensures c.if-inside.true)
+    omega (arith, passed (c.args.o + 1) (length c.args.d.now) c.inside.ensures c.if-inside.true)
 
 pub returns-then-inside : goal.returns-then-inside
 returns-then-inside c = reads_in 1 _ _ c.inside.ensures c.if-inside.true (byte_is _ _)

@@ -6,5 +6,4 @@ use Rattle.fields.proofs.eight.Goals as goal
 
 pub returns : goal.returns
 returns c =
-    let a = c.args in
-    omega (arith, le_split 4 4 a.d.now a.o)
+    omega (arith, le_split 4 4 c.args.d.now c.args.o)

@@ -6,5 +6,4 @@ use Rattle.fields.proofs.four.Goals as goal
 
 pub returns : goal.returns
 returns c =
-    let a = c.args in
-    omega (arith, le_split 2 2 a.d.now a.o)
+    omega (arith, le_split 2 2 c.args.d.now c.args.o)

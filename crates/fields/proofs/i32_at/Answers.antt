@@ -8,4 +8,4 @@ use Rattle.fields.proofs.i32_at.Goals as goal
 
 pub returns : goal.returns
 returns c =
-    to_z-of_z {w = w32} (record { sfits = c.signed32.type-inv }) ∙ c.signed32.ensures ∙ ap (to_z w32) c.u32_at.ensures
+    to_z-of_z {w = w32} (record { sfits = c.signed32.type_inv }) ∙ c.signed32.ensures ∙ ap (to_z w32) c.u32_at.ensures

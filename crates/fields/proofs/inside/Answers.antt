@@ -7,15 +7,12 @@ use Rattle.fields.proofs.inside.Goals as goal
 
 pub returns-then-n-w : goal.returns-then-n-w
 returns-then-n-w c =
-    let a = c.args in
-    sym (lt-leb (a.o + a.w) a.n (omega arith))
+    sym (lt-leb (c.args.o + c.args.w) c.args.n (omega arith))
 
 pub returns-then-o-n : goal.returns-then-o-n
 returns-then-o-n c =
-    let a = c.args in
-    sym (le-leb (a.o + a.w) a.n (omega arith))
+    sym (le-leb (c.args.o + c.args.w) c.args.n (omega arith))
 
 pub returns-else-o-n : goal.returns-else-o-n
 returns-else-o-n c =
-    let a = c.args in
-    sym (lt-leb (a.o + a.w) a.n (omega arith))
+    sym (lt-leb (c.args.o + c.args.w) c.args.n (omega arith))

@@ -11,11 +11,9 @@ use Rattle.fields.proofs.rest.Goals as goal
 pub returns-then-at-input : goal.returns-then-at-input
 unfolding rest_of
 returns-then-at-input c =
-    let a = c.args in
-    take_all (length a.input.now - a.at) (drop a.at a.input.now) (simp length-drop (omega arith))
+    take_all (length c.args.input.now - c.args.at) (drop c.args.at c.args.input.now) (simp length-drop (omega arith))
 
 pub returns-else-at-input : goal.returns-else-at-input
 unfolding rest_of
 returns-else-at-input c =
-    let a = c.args in
-    sym (drop_of_length-le a.input.now {i = a.at} (omega arith))
+    sym (drop_of_length-le c.args.input.now {i = c.args.at} (omega arith))

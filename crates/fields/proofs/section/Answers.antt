@@ -20,9 +20,8 @@ slice_bounds-result-end c = omega (arith, fits c)
 
 pub returns-then-inside : goal.returns-then-inside
 returns-then-inside c =
-    let a = c.args in
-    let n : a.at + a.size - a.at ≡ a.size = omega arith in
-    ap (λ (k : ℕ). take k (drop a.at a.input.now)) n
+    let n : c.args.at + c.args.size - c.args.at ≡ c.args.size = omega arith in
+    ap (λ (k : ℕ). take k (drop c.args.at c.args.input.now)) n
     ∙ sym (section_in _ _ _ (fits (goal.at.returns-then-inside c).Then-inside))
 
 pub returns-else-inside : goal.returns-else-inside

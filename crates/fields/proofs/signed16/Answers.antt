@@ -14,4 +14,4 @@ overflow_sub-result-else-v-lt32768 c = upper_fits w16 (65535 - c.args.v) (omega 
 pub returns-else-v-lt32768 : goal.returns-else-v-lt32768
 returns-else-v-lt32768 c =
     let v = c.args.v in
-    to_z-of_z (sub-result-2 c) ∙ upper_is w16 (65535 - v) (omega arith) v (omega arith) (omega arith)
+    to_z-of_z (overflow_sub-result-else-v-lt32768 c) ∙ upper_is w16 (65535 - v) (omega arith) v (omega arith) (omega arith)

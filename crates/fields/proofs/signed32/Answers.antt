@@ -14,4 +14,4 @@ overflow_sub-result-else-v-lt2147483648 c = upper_fits w32 (4294967295 - c.args.
 pub returns-else-v-lt2147483648 : goal.returns-else-v-lt2147483648
 returns-else-v-lt2147483648 c =
     let v = c.args.v in
-    to_z-of_z (sub-result-2 c) ∙ upper_is w32 (4294967295 - v) (omega arith) v (omega arith) (omega arith)
+    to_z-of_z (overflow_sub-result-else-v-lt2147483648 c) ∙ upper_is w32 (4294967295 - v) (omega arith) v (omega arith) (omega arith)

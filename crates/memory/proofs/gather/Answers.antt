@@ -19,7 +19,7 @@ on : (c : In-loop-base)
 on c = goes_on_lem _ _ (sym c.goes_on.ensures ∙ c.loop-base-test.true)
 
 pub loop-base-init : goal.loop-base-init
-loop-base-init c = let pre = c.requires in walk_begin (gather_begin _ _ pre.0 pre.1)
+loop-base-init c = walk_begin (gather_begin _ _ c.requires.ascending c.requires.out_value)
 
 pub bounds-ranges-i : goal.bounds-ranges-i
 bounds-ranges-i c = omega (arith, on (goal.at.bounds-ranges-i c).In-loop-base)

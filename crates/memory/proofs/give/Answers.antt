@@ -28,16 +28,13 @@ module _ (r : Range) (m : List ℕ) (at : ℕ) (out : List ℕ) where
 
 pub returns-then-at-base : goal.returns-then-at-base
 returns-then-at-base c =
-    let a = c.args in
-    given_none _ _ _ _ (holds_below a.base a.size a.at (omega arith))
+    given_none _ _ _ _ (holds_below c.args.base c.args.size c.args.at (omega arith))
 
 pub returns-then-size-gone : goal.returns-then-size-gone
 returns-then-size-gone c =
-    let a = c.args in
-    given_none _ _ _ _ (holds_past a.base a.size a.at (omega arith) (omega arith))
+    given_none _ _ _ _ (holds_past c.args.base c.args.size c.args.at (omega arith) (omega arith))
 
 pub returns : goal.returns
 returns c =
-    let a = c.args in
-    let held = holds_inside a.base a.size a.at (omega arith) (omega arith) in
-    given_some _ _ _ _ c.before.before.before.before.before.before.before.before.before.pre held c.least-n.ensures c.copy.ensures
+    let held = holds_inside c.args.base c.args.size c.args.at (omega arith) (omega arith) in
+    given_some _ _ _ _ c.requires held c.least-n.ensures c.copy.ensures

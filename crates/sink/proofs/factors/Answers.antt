@@ -7,8 +7,8 @@ use Rattle.sink.proofs.factors.Goals as goal
 
 pub returns-in-Default : goal.returns-in-Default
 unfolding factors_of of_bits round
-returns-in-Default c = sym (ap factors_of c.enum_told-1.given.1)
+returns-in-Default c = sym (ap factors_of c.in-Default.is)
 
 pub returns-in-Given : goal.returns-in-Given
 unfolding factors_of
-returns-in-Given c = sym (ap factors_of c.downmix-1.given.1)
+returns-in-Given c = sym (ap factors_of c.in-Given.is)

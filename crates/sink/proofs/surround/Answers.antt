@@ -13,11 +13,11 @@ loop-i-init c = begin _ _ _ _
 
 pub put_frame-requires : goal.put_frame-requires
 put_frame-requires c =
-    room c.loop-i.invariant (omega arith) c.requires.0
+    room c.loop-i.invariant (omega arith) c.requires.fact_1
 
 pub loop-i-preserved : goal.loop-i-preserved
 loop-i-preserved c =
-    more c.loop-i.invariant (omega arith) c.requires.0 _ _ _ c.one_side-l.ensures
+    more c.loop-i.invariant (omega arith) c.requires.fact_1 _ _ _ c.one_side-l.ensures
     c.one_side-r.ensures c.put_frame.ensures
 
 pub returns : goal.returns

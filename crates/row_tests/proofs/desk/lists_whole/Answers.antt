@@ -9,14 +9,14 @@ use Rattle.row_tests.specs.Desk.{lists_whole}
 use Rattle.row_tests.proofs.desk.lists_whole.Goals as goal
 
 pub rows_within-requires : goal.rows_within-requires
-rows_within-requires c = (first_table _ _ (omega arith), omega arith)
+rows_within-requires c = record { table = first_table _ _ (omega arith); w_in_bounds = omega arith }
 
 pub returns-then-not-rows_within : goal.returns-then-not-rows_within
 unfolding lists_whole
 returns-then-not-rows_within c = rw (sym c.rows_within.ensures ∙ c.if-not-rows_within.true)
 
 pub rows_within-requires-2 : goal.rows_within-requires-2
-rows_within-requires-2 c = (first_table _ _ (omega arith), omega arith)
+rows_within-requires-2 c = record { table = first_table _ _ (omega arith); w_in_bounds = omega arith }
 
 pub returns : goal.returns
 unfolding lists_whole

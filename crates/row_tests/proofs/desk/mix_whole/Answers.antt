@@ -7,7 +7,7 @@ use Rattle.row_tests.specs.Desk.{mix_whole, mix_table}
 use Rattle.row_tests.proofs.desk.mix_whole.Goals as goal
 
 pub row_within-requires : goal.row_within-requires
-row_within-requires c = (mix_table, omega arith)
+row_within-requires c = record { table = mix_table; w_in_bounds = omega arith }
 
 pub returns-then-not-row_within : goal.returns-then-not-row_within
 unfolding mix_whole

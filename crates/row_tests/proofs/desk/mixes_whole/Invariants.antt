@@ -6,7 +6,7 @@ use Rattle.row_tests.specs.Desk.{mix_whole, buffers_before, mixes_whole, mix_buf
 use Rattle.row_tests.proofs.desk.mixes_whole.Given as goal
 
 abbrev pub invariant-loop-m : goal.invariant-loop-m
-invariant-loop-m l = Passing (λ (l.m : ℕ). mix_whole l.mixes l.m (buffers_before l.mixes l.m)) l.n l.m × (l.offset ≡ buffers_before l.mixes l.m) × (l.offset ≤ l.m * 24)
+invariant-loop-m l = Passing (λ (m' : ℕ). mix_whole l.mixes m' (buffers_before l.mixes m')) l.n l.m × (l.offset ≡ buffers_before l.mixes l.m) × (l.offset ≤ l.m * 24)
 
 abbrev pub decreases-loop-m : goal.decreases-loop-m
 decreases-loop-m l = l.n - l.m

@@ -9,19 +9,19 @@ pub loop-k-init : goal.loop-k-init
 loop-k-init c = testing _ _ _ _
 
 pub overflow_add-at : goal.overflow_add-at
-overflow_add-at c = omega (arith, c.requires.0.inside c.loop-k.k (omega arith))
+overflow_add-at c = omega (arith, c.requires.table.inside c.loop-k.k (omega arith))
 
 pub offset_bounds-s-at : goal.offset_bounds-s-at
-offset_bounds-s-at c = omega (arith, c.requires.0.inside c.loop-k.k (omega arith))
+offset_bounds-s-at c = omega (arith, c.requires.table.inside c.loop-k.k (omega arith))
 
 pub bounds-s-at : goal.bounds-s-at
-bounds-s-at c = omega (arith, c.requires.0.inside c.loop-k.k (omega arith))
+bounds-s-at c = omega (arith, c.requires.table.inside c.loop-k.k (omega arith))
 
 pub returns-then-limits-k : goal.returns-then-limits-k
-returns-then-limits-k c = test_cut c.loop-k.invariant (omega arith) c.requires.0.paired (omega arith)
+returns-then-limits-k c = test_cut c.loop-k.invariant (omega arith) c.requires.table.paired (omega arith)
 
 pub loop-k-preserved : goal.loop-k-preserved
-loop-k-preserved c = test_more c.loop-k.invariant (omega arith) c.requires.0.paired (omega arith)
+loop-k-preserved c = test_more c.loop-k.invariant (omega arith) c.requires.table.paired (omega arith)
 
 pub returns : goal.returns
 returns c = test_end c.loop-k.invariant (omega arith)

@@ -16,7 +16,7 @@ pub overflow_add-base : goal.overflow_add-base
 overflow_add-base c = omega (arith, row_end c.args.base c.args.w c.loop-i.i c.args.n c.loop-i-test.true)
 
 pub row_within-requires : goal.row_within-requires
-row_within-requires c = (c.requires.0, omega (arith, row_end c.args.base c.args.w c.loop-i.i c.args.n c.loop-i-test.true))
+row_within-requires c = record { table = c.requires.table; w_in_bounds = omega (arith, row_end c.args.base c.args.w c.loop-i.i c.args.n c.loop-i-test.true) }
 
 pub returns-then-not-row_within : goal.returns-then-not-row_within
 unfolding rows_within

@@ -6,7 +6,7 @@ use Rattle.row_tests.specs.Limits.{within, rows_within}
 use Rattle.row_tests.proofs.limits.rows_within.Given as goal
 
 abbrev pub invariant-loop-i : goal.invariant-loop-i
-invariant-loop-i l = Passing (λ (l.i : ℕ). within l.s (l.base + l.i * l.w) l.fields l.limits) l.n l.i
+invariant-loop-i l = Passing (λ (i' : ℕ). within l.s (l.base + i' * l.w) l.fields l.limits) l.n l.i
 
 abbrev pub decreases-loop-i : goal.decreases-loop-i
 decreases-loop-i l = l.n - l.i

@@ -10,7 +10,7 @@ returns-then-not-voice_words_whole c = every_fail _ 0 c.voice_words_whole.ensure
 
 pub returns-then-not-some_channel : goal.returns-then-not-some_channel
 unfolding voice_whole
-returns-then-not-some_channel c = every_fail _ 1 c.before.some_channel_lem.ensures c.if-not-some_channel.true-raw
+returns-then-not-some_channel c = every_fail _ 1 c.some_channel.ensures c.if-not-some_channel.true-raw
 
 pub returns-then-not-in_unit : goal.returns-then-not-in_unit
 unfolding voice_whole
@@ -21,6 +21,6 @@ unfolding voice_whole every
 returns c =
     simp (
       passes c.voice_words_whole.ensures c.if-not-voice_words_whole.false-raw,
-      passes c.before.before.before.before.some_channel_lem.ensures c.if-not-some_channel.false-raw,
+      passes c.some_channel.ensures c.if-not-some_channel.false-raw,
       passes c.in_unit.ensures c.if-not-in_unit.false-raw,
     )

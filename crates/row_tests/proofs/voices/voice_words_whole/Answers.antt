@@ -7,28 +7,28 @@ use Rattle.row_tests.specs.Voices.{voice_words_whole, voice_table, wave_table}
 use Rattle.row_tests.proofs.voices.voice_words_whole.Goals as goal
 
 pub row_within-requires : goal.row_within-requires
-row_within-requires c = (voice_table, omega arith)
+row_within-requires c = record { table = voice_table; w_in_bounds = omega arith }
 
 pub returns-then-not-row_within : goal.returns-then-not-row_within
 unfolding voice_words_whole
 returns-then-not-row_within c = every_fail _ 0 c.row_within.ensures c.if-not-row_within.true-raw
 
 pub rows_within-requires : goal.rows_within-requires
-rows_within-requires c = (first_table _ _ (omega arith), omega arith)
+rows_within-requires c = record { table = first_table _ _ (omega arith); w_in_bounds = omega arith }
 
 pub returns-then-not-rows_within : goal.returns-then-not-rows_within
 unfolding voice_words_whole
 returns-then-not-rows_within c = every_fail _ 1 c.rows_within.ensures c.if-not-rows_within.true-raw
 
 pub rows_within-requires-2 : goal.rows_within-requires-2
-rows_within-requires-2 c = (first_table _ _ (omega arith), omega arith)
+rows_within-requires-2 c = record { table = first_table _ _ (omega arith); w_in_bounds = omega arith }
 
 pub returns-then-not-rows_within-2 : goal.returns-then-not-rows_within-2
 unfolding voice_words_whole
 returns-then-not-rows_within-2 c = every_fail _ 2 c.rows_within-2.ensures c.if-not-rows_within-2.true-raw
 
 pub rows_within-requires-3 : goal.rows_within-requires-3
-rows_within-requires-3 c = (wave_table, omega arith)
+rows_within-requires-3 c = record { table = wave_table; w_in_bounds = omega arith }
 
 pub returns-then-not-rows_within-3 : goal.returns-then-not-rows_within-3
 unfolding voice_words_whole

@@ -9,7 +9,7 @@ pub loop-i-init : goal.loop-i-init
 loop-i-init c = pass_begin _ _
 
 pub voice_whole-requires : goal.voice_whole-requires
-voice_whole-requires c = (c.requires, c.loop-i-test.true)
+voice_whole-requires c = record { room = c.requires; i_lt_n = c.loop-i-test.true }
 
 pub returns-then-not-voice_whole : goal.returns-then-not-voice_whole
 unfolding voices_whole
