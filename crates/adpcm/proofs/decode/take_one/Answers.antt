@@ -1,0 +1,67 @@
+-- `adpcm::take_one` meets its contract: each return is a case of the definition, with its places as the definition has them. Assumes nothing.
+use mathlib.Core.Path.{◌≡◌, ◌∙◌, sym}
+use mathlib.Core.Bool.{Bool, true}
+use mathlib.Core.List.{List}
+use Prim.Native.Nat.{ℕ, ◌+◌, ◌-◌, ◌/◌, ◌%◌, ◌≤◌, ◌<◌}
+use borrow.Author.Rules.{rules}
+use borrow.Author.Tests.{le-leb, lt-leb}
+use native.Mathlib.Omega.{arith}
+use lib.Dec.{eqb}
+use lib.IntN.{ℤ}
+use lib.ListN.{length, get_or}
+use mir.Syntax.{w16}
+use Rattle.adpcm.specs.Places.{nibble_of}
+use Rattle.adpcm.specs.Decode.{took_of, value_of}
+use Rattle.adpcm.specs.declared.context.AdpcmContext.{AdpcmContext}
+use Rattle.adpcm.proofs.Ints.{back}
+use Rattle.adpcm.proofs.decode.take_one.Goals as goal
+use Rattle.adpcm.proofs.decode.take_one.Goals.{After-starts_frame, Start}
+
+module _ (c : After-starts_frame) where
+  abbrev start : Start
+  start = c.before.before.before.before
+
+  abbrev s : List ℕ
+  s = start.args.«data».now
+
+  abbrev k : List ℤ
+  k = start.args.coefficients.now
+
+  abbrev m : ℕ
+  m = start.args.m.0
+
+  abbrev x : AdpcmContext
+  x = start.args.ctx
+
+  abbrev at : ℕ
+  at = nibble_of m / 2 - start.args.base.0
+
+  place : c.index_from-at.result ≡ at
+  place = c.index_from-at.ensures ∙ (λ i. c.adpcm_nibble_byte.ensures i - start.args.base.0)
+
+  first : {b : Bool} → c.starts_frame.result ≡ b → eqb (m % 14) 0 ≡ b
+  first h = sym c.starts_frame.ensures ∙ h
+
+pub returns-then-data-at : goal.returns-then-data-at
+unfolding took_of
+returns-then-data-at c =
+    let h : length (s c.before.before) ≤ at c.before.before = rw (place c.before.before) at c.if-data-at.true in
+    simp (first c.before.before c.if-starts_frame.true, le-leb _ _ h)
+
+pub overflow_cast-read : goal.overflow_cast-read
+overflow_cast-read c =
+    omega (arith, c.shared_slice_known-then-starts_frame-1.given c.index_from-at.result)
+
+pub returns-else-data-at : goal.returns-else-data-at
+unfolding took_of
+returns-else-data-at c =
+    let h : at c.before.before.before.before.before.before < length (s c.before.before.before.before.before.before) = rw (place c.before.before.before.before.before.before) at c.if-data-at.false in
+    c.take_value.ensures
+    ∙ (λ i. value_of (s c.before.before.before.before.before.before) (place c.before.before.before.before.before.before i + 1) true (k c.before.before.before.before.before.before) (record { pred_scale = get_or (s c.before.before.before.before.before.before) (place c.before.before.before.before.before.before i) 0; history0 = back w16 (x c.before.before.before.before.before.before).history0 (omega arith) i; history1 = back w16 (x c.before.before.before.before.before.before).history1 (omega arith) i }))
+    ∙ simp (first c.before.before.before.before.before.before c.if-starts_frame.true, lt-leb _ _ h)
+
+pub returns-else-starts_frame : goal.returns-else-starts_frame
+unfolding took_of
+returns-else-starts_frame c =
+    let high : c.is_high-high.result ≡ eqb (nibble_of (m c.before.before.before.before) % 2) 0 = c.is_high-high.ensures ∙ (λ i. eqb (c.adpcm_nibble.ensures i % 2) 0) in
+    simp (first c.before.before.before.before c.if-starts_frame.false) (rw (place c.before.before.before.before, high) at c.take_value-else-starts_frame.ensures)

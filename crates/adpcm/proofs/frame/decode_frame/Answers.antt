@@ -1,0 +1,107 @@
+-- `adpcm::decode_frame` meets its contract: each turn takes the two samples of a byte. Assumes nothing.
+use Prim.Native.Nat.{ℕ, ◌+◌, ◌*◌, ◌-◌, ◌/◌, ◌%◌, ◌≤◌}
+use mathlib.Core.Path.{◌≡◌, refl, sym, subst, ◌∙◌}
+use mathlib.Core.List.{List}
+use lib.IntN.{ℤ, pos}
+use native.Mathlib.Omega.{arith}
+use lib.ListN.{length, set, get_or, length-set}
+use mir.Syntax.{w16}
+use mir.Val.{SFits, to_z, of_z}
+use Rattle.adpcm.specs.Step.{step_of}
+use Rattle.adpcm.specs.Places.{nibble_of}
+use Rattle.adpcm.specs.Decode.{pair_of, run_from, Decodes}
+use Rattle.adpcm.specs.declared.context.AdpcmContext.{AdpcmContext}
+use Rattle.adpcm.proofs.Ints.{back}
+use Rattle.adpcm.proofs.Framed.{next, Framed, context, framed_begin, framed_more, framed_end}
+use borrow.Author.Rules.{rules}
+use Rattle.adpcm.proofs.frame.decode_frame.Goals as goal
+use Rattle.adpcm.proofs.frame.decode_frame.Goals.{After-step-low, At-loop-i, Start}
+
+-- the last two samples as they were handed over
+module _ (a : Start) where
+  was0 : to_z w16 (of_z w16 a.args.ctx.history0) ≡ a.args.ctx.history0
+  was0 = back w16 a.args.ctx.history0 (omega arith)
+
+  was1 : to_z w16 (of_z w16 a.args.ctx.history1) ≡ a.args.ctx.history1
+  was1 = back w16 a.args.ctx.history1 (omega arith)
+
+-- what the two steps give
+module _ (c : After-step-low) where
+  abbrev turn : At-loop-i
+  turn = c.before.before.before.before.before.before
+
+  abbrev start : Start
+  start = turn.before.before.before.before.before.before.before.before
+
+  abbrev f : List ℕ
+  f = start.args.frame.now
+
+  abbrev k : List ℤ
+  k = start.args.coefficients.now
+
+  abbrev x : AdpcmContext
+  x = turn.loop.x
+
+  b0 : to_z w16 (of_z w16 x.history0) ≡ x.history0
+  b0 = back w16 x.history0 (turn.loop.inv.3 0).fits0.sfits
+
+  b1 : to_z w16 (of_z w16 x.history1) ≡ x.history1
+  b1 = back w16 x.history1 (turn.loop.inv.3 0).fits1.sfits
+
+  kc : to_z w16 (of_z w16 (get_or k (pair_of (get_or f 0 0)) (pos 0))) ≡ get_or k (pair_of (get_or f 0 0)) (pos 0)
+  kc = back w16 _ turn.before.before.before.before.c.given
+
+  kd : to_z w16 (of_z w16 (get_or k (pair_of (get_or f 0 0) + 1) (pos 0))) ≡ get_or k (pair_of (get_or f 0 0) + 1) (pos 0)
+  kd = back w16 _ turn.before.before.before.d.given
+
+  -- the byte
+  abbrev v : ℕ
+  v = get_or f (turn.loop.i + 1) 0
+
+  abbrev a : ℤ
+  a = to_z w16 (of_z w16 c.step-high.result)
+
+  abbrev b : ℤ
+  b = to_z w16 (of_z w16 c.step-low.result)
+
+  high_is : next f k (v / 16) x.history0 x.history1 ≡ a
+  high_is = sym (back w16 c.step-high.result c.step-high.type_inv ∙ c.step-high.ensures ∙ (λ i. step_of (v / 16) (get_or f 0 0 % 16) (kc i) (kd i) (b0 i) (b1 i)))
+
+  low_is : next f k (v % 16) a x.history0 ≡ b
+  low_is = sym (back w16 c.step-low.result c.step-low.type_inv ∙ c.step-low.ensures ∙ (λ i. step_of (v % 16) (get_or f 0 0 % 16) (kc i) (kd i) a (b0 i)))
+
+pub loop-i-init : goal.loop-i-init
+loop-i-init c =
+    let f0 : SFits w16 c.args.ctx.history0 = omega arith in
+    let f1 : SFits w16 c.args.ctx.history1 = omega arith in
+    (omega arith, omega arith, refl, λ b. framed_begin _ _ _ _ (omega arith) (omega arith) (subst (SFits w16) (sym (was0 c.before.before.before.before.before.before.before)) f0) (subst (SFits w16) (sym (was1 c.before.before.before.before.before.before.before)) f1))
+
+pub step-high-requires : goal.step-high-requires
+step-high-requires c =
+    omega (arith, c.shared_slice_known-in-loop-i-1.given (c.loop-i.i + 1))
+
+pub bounds-out-i-in-loop-i : goal.bounds-out-i-in-loop-i
+bounds-out-i-in-loop-i c = simp length-set (omega arith)
+
+pub loop-i-preserved : goal.loop-i-preserved
+loop-i-preserved c =
+    let l = turn c.before.before in
+    let i = l.loop.i in
+    let o = l.loop.out in (
+      omega arith,
+      length-set (set o (2 * i) _) (2 * i + 1) _ ∙ length-set o (2 * i) _ ∙ l.loop.inv.1,
+      refl,
+      λ n. framed_more _ _ _ _ (start c.before.before).requires.0 (start c.before.before).requires.1 o _ _ i (a c.before.before) (b c.before.before) (omega arith) (l.loop.inv.3 n) (high_is c.before.before) (low_is c.before.before),
+    )
+
+pub returns : goal.returns
+unfolding nibble_of
+returns c =
+    let e = c.args.ctx in
+    let x = c.loop-i.x in
+    let b = e.pred_scale in
+    let d : Decodes (run_from c.args.frame.now 0 c.args.coefficients.now 14 0 e) c.args.out.now c.loop-i.out 14 (context (get_or c.args.frame.now 0 0) x.history0 x.history1) =
+    subst (λ (y : AdpcmContext). Decodes (run_from c.args.frame.now 0 c.args.coefficients.now 14 0 y) c.args.out.now c.loop-i.out 14 (context (get_or c.args.frame.now 0 0) x.history0 x.history1))
+    (λ i. context b (was0 c.before.before.before.before.before.before.before.before.before i) (was1 c.before.before.before.before.before.before.before.before.before i))
+    (framed_end _ _ _ _ c.requires.0 c.requires.1 _ _ _ c.loop-i.i (omega arith) (c.loop-i.invariant.3 b)) in
+    subst (λ (h : ℕ). Decodes (run_from c.args.frame.now 0 c.args.coefficients.now 14 0 e) c.args.out.now c.loop-i.out 14 (context h x.history0 x.history1)) (sym c.loop-i.invariant.2) d

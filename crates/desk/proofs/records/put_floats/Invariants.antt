@@ -1,0 +1,12 @@
+use Prim.Native.Nat.{◌-◌}
+use native.Mathlib.Omega.{arith}
+use borrow.Author.Rules.{rules}
+use Rattle.rows.specs.Tables.{Tabling, table_begin, table_step, table_end}
+use Rattle.desk.specs.Records.{float_at}
+use Rattle.desk.proofs.records.put_floats.Given as goal
+
+abbrev pub invariant-loop-k : goal.invariant-loop-k
+invariant-loop-k l = Tabling l.initial.floats l.to l.n (float_at l.p l.o) l.floats l.k
+
+abbrev pub decreases-loop-k : goal.decreases-loop-k
+decreases-loop-k l = l.n - l.k

@@ -1,0 +1,15 @@
+use mathlib.Core.Path.{ap}
+use Prim.Native.Nat.{◌-◌}
+use native.Mathlib.Omega.{arith}
+use borrow.Author.Rules.{rules}
+use Rattle.rows.specs.Loops.{Turning, turn_begin, turn_more, turn_end}
+use Rattle.desk.specs.Sinks.{SinkRows, sink_rows, sink_step, sinks_of}
+use Rattle.desk.specs.SinkLaws.{Sized, step_sized}
+use Rattle.desk.proofs.sinks.update_sinks.Given as goal
+
+abbrev pub invariant-loop-k : goal.invariant-loop-k
+invariant-loop-k l =
+    Turning (Sized l.n) (sink_step l.d) l.count (sink_rows l.initial.words l.initial.floats) (sink_rows l.words l.floats) l.k
+
+abbrev pub decreases-loop-k : goal.decreases-loop-k
+decreases-loop-k l = l.count - l.k

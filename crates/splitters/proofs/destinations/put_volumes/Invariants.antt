@@ -1,0 +1,12 @@
+use Prim.Native.Nat.{◌-◌}
+use native.Mathlib.Omega.{arith}
+use borrow.Author.Rules.{rules}
+use Rattle.rows.specs.Tables.{Tabling, table_begin, table_step, table_end}
+use Rattle.splitters.specs.Destinations.{volume_of}
+use Rattle.splitters.proofs.destinations.put_volumes.Given as goal
+
+abbrev pub invariant-loop-k : goal.invariant-loop-k
+invariant-loop-k l = Tabling l.initial.floats l.to 24 (volume_of l.d l.at) l.floats l.k
+
+abbrev pub decreases-loop-k : goal.decreases-loop-k
+decreases-loop-k l = 24 - l.k
