@@ -20,7 +20,7 @@ from_base : (c : After-plus-m) → c.adpcm_nibble_byte-base.result.0 ≤ nibble_
 from_base c =
     omega (arith, nibble_mono c.args.start.0 c.plus-m.result.0 (omega (arith, c.plus-m.ensures)), c.adpcm_nibble_byte-base.ensures)
 
--- what the test for c.args whole frame says
+-- what the test for a whole frame says
 framed : (c : Then-begins_frame) →
     (c.plus-m.result.0 % 14 ≡ 0) × (c.index_from-at.result + 8 ≤ length c.args.«data».now) × (c.loop-done.done + 14 ≤ c.args.count)
 framed c = c.begins_frame.ensures (subst T (sym c.if-begins_frame.true) tt)
@@ -63,9 +63,9 @@ take_one-requires c =
 
 pub returns-in-Short : goal.returns-in-Short
 returns-in-Short c =
-    subst (λ (b : ℕ). Decodes (run_from c.args.«data».now b c.args.coefficients.now c.args.count c.args.start.0 c.args.ctx) c.args.out.now c.loop-done.out c.loop-done.done c.y-1.given.0.0)
+    subst (λ (b : ℕ). Decodes (run_from c.args.«data».now b c.args.coefficients.now c.args.count c.args.start.0 c.args.ctx) c.args.out.now c.loop-done.out c.loop-done.done c.in-Short.y)
     c.adpcm_nibble_byte-base.ensures
-    (cut _ _ _ _ _ _ _ _ c.loop-done.x _ _ (omega arith) (omega arith) c.loop-done.invariant (took (goal.at.returns-in-Short c).After-take_one ∙ c.y-1.given.1))
+    (cut _ _ _ _ _ _ _ _ c.loop-done.x _ _ (omega arith) (omega arith) c.loop-done.invariant (took (goal.at.returns-in-Short c).After-take_one ∙ c.in-Short.is))
 
 pub offset_bounds-out-done-in-Got : goal.offset_bounds-out-done-in-Got
 offset_bounds-out-done-in-Got c =
@@ -73,9 +73,9 @@ offset_bounds-out-done-in-Got c =
 
 pub loop-done-preserved : goal.loop-done-preserved
 loop-done-preserved c =
-    let y = c.y-in-Got-1.given.0.0 in
+    let y = c.in-Got.y in
     rw (back w16 y.history0 (omega arith))
-    (more _ _ _ _ _ _ _ _ c.loop-done.x y _ c.requires.1 c.loop-done-test.true c.loop-done.invariant (took (goal.at.loop-done-preserved c).After-take_one ∙ c.y-in-Got-1.given.1))
+    (more _ _ _ _ _ _ _ _ c.loop-done.x y _ c.requires.1 c.loop-done-test.true c.loop-done.invariant (took (goal.at.loop-done-preserved c).After-take_one ∙ c.in-Got.is))
 
 pub returns : goal.returns
 returns c =

@@ -15,29 +15,26 @@ use Rattle.adpcm.specs.Decode.{took_of, value_of}
 use Rattle.adpcm.specs.declared.context.AdpcmContext.{AdpcmContext}
 use Rattle.adpcm.proofs.Ints.{back}
 use Rattle.adpcm.proofs.decode.take_one.Goals as goal
-use Rattle.adpcm.proofs.decode.take_one.Goals.{After-starts_frame, Start}
+use Rattle.adpcm.proofs.decode.take_one.Goals.{After-starts_frame}
 
 module _ (c : After-starts_frame) where
-  abbrev start : Start
-  start = c.before.before.before.before
-
   abbrev s : List ℕ
-  s = start.args.«data».now
+  s = c.args.«data».now
 
   abbrev k : List ℤ
-  k = start.args.coefficients.now
+  k = c.args.coefficients.now
 
   abbrev m : ℕ
-  m = start.args.m.0
+  m = c.args.m.0
 
   abbrev x : AdpcmContext
-  x = start.args.ctx
+  x = c.args.ctx
 
   abbrev at : ℕ
-  at = nibble_of m / 2 - start.args.base.0
+  at = nibble_of m / 2 - c.args.base.0
 
   place : c.index_from-at.result ≡ at
-  place = c.index_from-at.ensures ∙ (λ i. c.adpcm_nibble_byte.ensures i - start.args.base.0)
+  place = c.index_from-at.ensures ∙ (λ i. c.adpcm_nibble_byte.ensures i - c.args.base.0)
 
   first : {b : Bool} → c.starts_frame.result ≡ b → eqb (m % 14) 0 ≡ b
   first h = sym c.starts_frame.ensures ∙ h
@@ -45,8 +42,9 @@ module _ (c : After-starts_frame) where
 pub returns-then-data-at : goal.returns-then-data-at
 unfolding took_of
 returns-then-data-at c =
-    let h : length (s c.before.before) ≤ at c.before.before = rw (place c.before.before) at c.if-data-at.true in
-    simp (first c.before.before c.if-starts_frame.true, le-leb _ _ h)
+    let p = (goal.at.returns-then-data-at c).After-starts_frame in
+    let h : length (s p) ≤ at p = rw (place p) at c.if-data-at.true in
+    simp (first p c.if-starts_frame.true, le-leb _ _ h)
 
 pub overflow_cast-read : goal.overflow_cast-read
 overflow_cast-read c =
@@ -55,13 +53,15 @@ overflow_cast-read c =
 pub returns-else-data-at : goal.returns-else-data-at
 unfolding took_of
 returns-else-data-at c =
-    let h : at c.before.before.before.before.before.before < length (s c.before.before.before.before.before.before) = rw (place c.before.before.before.before.before.before) at c.if-data-at.false in
+    let p = (goal.at.returns-else-data-at c).After-starts_frame in
+    let h : at p < length (s p) = rw (place p) at c.if-data-at.false in
     c.take_value.ensures
-    ∙ (λ i. value_of (s c.before.before.before.before.before.before) (place c.before.before.before.before.before.before i + 1) true (k c.before.before.before.before.before.before) (record { pred_scale = get_or (s c.before.before.before.before.before.before) (place c.before.before.before.before.before.before i) 0; history0 = back w16 (x c.before.before.before.before.before.before).history0 (omega arith) i; history1 = back w16 (x c.before.before.before.before.before.before).history1 (omega arith) i }))
-    ∙ simp (first c.before.before.before.before.before.before c.if-starts_frame.true, lt-leb _ _ h)
+    ∙ (λ i. value_of (s p) (place p i + 1) true (k p) (record { pred_scale = get_or (s p) (place p i) 0; history0 = back w16 (x p).history0 (omega arith) i; history1 = back w16 (x p).history1 (omega arith) i }))
+    ∙ simp (first p c.if-starts_frame.true, lt-leb _ _ h)
 
 pub returns-else-starts_frame : goal.returns-else-starts_frame
 unfolding took_of
 returns-else-starts_frame c =
-    let high : c.is_high-high.result ≡ eqb (nibble_of (m c.before.before.before.before) % 2) 0 = c.is_high-high.ensures ∙ (λ i. eqb (c.adpcm_nibble.ensures i % 2) 0) in
-    simp (first c.before.before.before.before c.if-starts_frame.false) (rw (place c.before.before.before.before, high) at c.take_value-else-starts_frame.ensures)
+    let p = (goal.at.returns-else-starts_frame c).After-starts_frame in
+    let high : c.is_high-high.result ≡ eqb (nibble_of (m p) % 2) 0 = c.is_high-high.ensures ∙ (λ i. eqb (c.adpcm_nibble.ensures i % 2) 0) in
+    simp (first p c.if-starts_frame.false) (rw (place p, high) at c.take_value-else-starts_frame.ensures)

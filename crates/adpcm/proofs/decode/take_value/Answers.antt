@@ -16,24 +16,21 @@ use Rattle.adpcm.specs.declared.context.AdpcmContext.{AdpcmContext}
 use Rattle.adpcm.specs.declared.decode.Took.TheVariants.{Got}
 use Rattle.adpcm.proofs.Ints.{back}
 use Rattle.adpcm.proofs.decode.take_value.Goals as goal
-use Rattle.adpcm.proofs.decode.take_value.Goals.{After-step-s, Start}
+use Rattle.adpcm.proofs.decode.take_value.Goals.{After-step-s}
 
 half_lt : (h : Bool) (b : ℕ) → b < 256 → half_of h b < 16
 half_lt true b p = omega arith
 half_lt false b p = omega arith
 
 module _ (c : After-step-s) where
-  abbrev start : Start
-  start = c.before.before.before.before.before.before.before.before.before
-
   abbrev x : AdpcmContext
-  x = start.args.ctx
+  x = c.args.ctx
 
   abbrev k : List ℤ
-  k = start.args.coefficients.now
+  k = c.args.coefficients.now
 
   abbrev v : ℕ
-  v = half_of start.args.high (get_or start.args.«data».now start.args.at 0)
+  v = half_of c.args.high (get_or c.args.«data».now c.args.at 0)
 
   b0 : to_z w16 (of_z w16 x.history0) ≡ x.history0
   b0 = back w16 x.history0 (omega arith)

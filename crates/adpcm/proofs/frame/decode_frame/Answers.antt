@@ -15,48 +15,34 @@ use Rattle.adpcm.proofs.Ints.{back}
 use Rattle.adpcm.proofs.Framed.{next, Framed, context, framed_begin, framed_more, framed_end}
 use borrow.Author.Rules.{rules}
 use Rattle.adpcm.proofs.frame.decode_frame.Goals as goal
-use Rattle.adpcm.proofs.frame.decode_frame.Goals.{After-step-low, At-loop-i, Start}
-
--- the last two samples as they were handed over
-module _ (a : Start) where
-  was0 : to_z w16 (of_z w16 a.args.ctx.history0) ≡ a.args.ctx.history0
-  was0 = back w16 a.args.ctx.history0 (omega arith)
-
-  was1 : to_z w16 (of_z w16 a.args.ctx.history1) ≡ a.args.ctx.history1
-  was1 = back w16 a.args.ctx.history1 (omega arith)
+use Rattle.adpcm.proofs.frame.decode_frame.Goals.{After-step-low}
 
 -- what the two steps give
 module _ (c : After-step-low) where
-  abbrev turn : At-loop-i
-  turn = c.before.before.before.before.before.before
-
-  abbrev start : Start
-  start = turn.before.before.before.before.before.before.before.before
-
   abbrev f : List ℕ
-  f = start.args.frame.now
+  f = c.args.frame.now
 
   abbrev k : List ℤ
-  k = start.args.coefficients.now
+  k = c.args.coefficients.now
 
   abbrev x : AdpcmContext
-  x = turn.loop.x
+  x = c.loop-i.x
 
   b0 : to_z w16 (of_z w16 x.history0) ≡ x.history0
-  b0 = back w16 x.history0 (turn.loop.inv.3 0).fits0.sfits
+  b0 = back w16 x.history0 (c.loop-i.invariant.3 0).fits0.sfits
 
   b1 : to_z w16 (of_z w16 x.history1) ≡ x.history1
-  b1 = back w16 x.history1 (turn.loop.inv.3 0).fits1.sfits
+  b1 = back w16 x.history1 (c.loop-i.invariant.3 0).fits1.sfits
 
   kc : to_z w16 (of_z w16 (get_or k (pair_of (get_or f 0 0)) (pos 0))) ≡ get_or k (pair_of (get_or f 0 0)) (pos 0)
-  kc = back w16 _ turn.before.before.before.before.c.given
+  kc = back w16 _ c.c-1.given
 
   kd : to_z w16 (of_z w16 (get_or k (pair_of (get_or f 0 0) + 1) (pos 0))) ≡ get_or k (pair_of (get_or f 0 0) + 1) (pos 0)
-  kd = back w16 _ turn.before.before.before.d.given
+  kd = back w16 _ c.d-1.given
 
   -- the byte
   abbrev v : ℕ
-  v = get_or f (turn.loop.i + 1) 0
+  v = get_or f (c.loop-i.i + 1) 0
 
   abbrev a : ℤ
   a = to_z w16 (of_z w16 c.step-high.result)
@@ -74,7 +60,7 @@ pub loop-i-init : goal.loop-i-init
 loop-i-init c =
     let f0 : SFits w16 c.args.ctx.history0 = omega arith in
     let f1 : SFits w16 c.args.ctx.history1 = omega arith in
-    (omega arith, omega arith, refl, λ b. framed_begin _ _ _ _ (omega arith) (omega arith) (subst (SFits w16) (sym (was0 c.before.before.before.before.before.before.before)) f0) (subst (SFits w16) (sym (was1 c.before.before.before.before.before.before.before)) f1))
+    (omega arith, omega arith, refl, λ b. framed_begin _ _ _ _ (omega arith) (omega arith) (subst (SFits w16) (sym (back w16 c.args.ctx.history0 (omega arith))) f0) (subst (SFits w16) (sym (back w16 c.args.ctx.history1 (omega arith))) f1))
 
 pub step-high-requires : goal.step-high-requires
 step-high-requires c =
@@ -85,13 +71,13 @@ bounds-out-i-in-loop-i c = simp length-set (omega arith)
 
 pub loop-i-preserved : goal.loop-i-preserved
 loop-i-preserved c =
-    let l = turn c.before.before in
-    let i = l.loop.i in
-    let o = l.loop.out in (
+    let s = (goal.at.loop-i-preserved c).After-step-low in
+    let i = c.loop-i.i in
+    let o = c.loop-i.out in (
       omega arith,
-      length-set (set o (2 * i) _) (2 * i + 1) _ ∙ length-set o (2 * i) _ ∙ l.loop.inv.1,
+      length-set (set o (2 * i) _) (2 * i + 1) _ ∙ length-set o (2 * i) _ ∙ c.loop-i.invariant.1,
       refl,
-      λ n. framed_more _ _ _ _ (start c.before.before).requires.0 (start c.before.before).requires.1 o _ _ i (a c.before.before) (b c.before.before) (omega arith) (l.loop.inv.3 n) (high_is c.before.before) (low_is c.before.before),
+      λ n. framed_more _ _ _ _ c.requires.0 c.requires.1 o _ _ i (a s) (b s) (omega arith) (c.loop-i.invariant.3 n) (high_is s) (low_is s),
     )
 
 pub returns : goal.returns
@@ -99,9 +85,11 @@ unfolding nibble_of
 returns c =
     let e = c.args.ctx in
     let x = c.loop-i.x in
+    let b0 : to_z w16 (of_z w16 e.history0) ≡ e.history0 = back w16 e.history0 (omega arith) in
+    let b1 : to_z w16 (of_z w16 e.history1) ≡ e.history1 = back w16 e.history1 (omega arith) in
     let b = e.pred_scale in
     let d : Decodes (run_from c.args.frame.now 0 c.args.coefficients.now 14 0 e) c.args.out.now c.loop-i.out 14 (context (get_or c.args.frame.now 0 0) x.history0 x.history1) =
     subst (λ (y : AdpcmContext). Decodes (run_from c.args.frame.now 0 c.args.coefficients.now 14 0 y) c.args.out.now c.loop-i.out 14 (context (get_or c.args.frame.now 0 0) x.history0 x.history1))
-    (λ i. context b (was0 c.before.before.before.before.before.before.before.before.before i) (was1 c.before.before.before.before.before.before.before.before.before i))
+    (λ i. context b (b0 i) (b1 i))
     (framed_end _ _ _ _ c.requires.0 c.requires.1 _ _ _ c.loop-i.i (omega arith) (c.loop-i.invariant.3 b)) in
     subst (λ (h : ℕ). Decodes (run_from c.args.frame.now 0 c.args.coefficients.now 14 0 e) c.args.out.now c.loop-i.out 14 (context h x.history0 x.history1)) (sym c.loop-i.invariant.2) d

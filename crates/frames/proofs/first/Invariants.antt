@@ -1,0 +1,13 @@
+use mathlib.Core.Path.{◌≡◌, ap, sym, ◌∙◌}
+use Prim.Native.Nat.{ℕ, ◌-◌, ◌≤◌}
+use native.Mathlib.Omega.{arith}
+use borrow.Author.Rules.{rules}
+use Rattle.frames.specs.Frames.{first_from}
+use Rattle.frames.specs.Laws.{found, passed, none_left}
+use Rattle.frames.proofs.first.Given as goal
+
+abbrev pub invariant-loop-k : goal.invariant-loop-k
+invariant-loop-k l = (l.k ≤ l.sinks) × (first_from l.words (l.sinks - l.k) l.k ≡ first_from l.words l.sinks 0)
+
+abbrev pub decreases-loop-k : goal.decreases-loop-k
+decreases-loop-k l = l.sinks - l.k

@@ -1,0 +1,18 @@
+-- `sub_mix::send_buffer` meets its contract: the buffer is a row, and its volumes a part of the mix's. Assumes nothing.
+use mathlib.Core.Path.{◌∙◌}
+use Prim.Native.Nat.{◌+◌, ◌*◌}
+use native.Mathlib.Omega.{arith}
+use borrow.Author.Rules.{rules}
+use Rattle.rows.specs.Lent.{part_cut, length_lent}
+use Rattle.sub_mix.specs.SubMix.{mix_volume, send_row, send_buffer}
+use Rattle.sub_mix.proofs.send_buffer.Goals as goal
+
+pub send_row-requires : goal.send_row-requires
+send_row-requires c =
+    let p = c.before.before.before.before.before.before.before.before.before.requires.1 in record { fact_1 = c.requires.fact_1; fact_2 = (p.1.0.1, p.1.0.2); fact_3 = (omega (arith, c.offset_of.ensures.1), p.1.1.1, length_lent c.args.volumes.now (c.args.m * 577 + 1 + c.args.i * 24) 24 (omega (arith, p))) }
+
+pub returns : goal.returns
+unfolding send_buffer
+returns c =
+    c.send_row.ensures
+    ∙ (λ j. send_row c.args.n c.args.mixes.now (c.offset_of.ensures.0 j + c.args.i) c.args.to (mix_volume c.args.volumes.now c.args.m) (part_cut c.args.volumes.now (c.args.m * 577 + 1 + c.args.i * 24) 24 j) c.args.buffers.now)

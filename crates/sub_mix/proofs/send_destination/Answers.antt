@@ -1,0 +1,16 @@
+-- `sub_mix::send_destination` meets its contract: the buffer is a row, and its volumes a part of the destination's. Assumes nothing.
+use mathlib.Core.Path.{◌∙◌}
+use Prim.Native.Nat.{◌*◌}
+use borrow.Author.Rules.{rules}
+use Rattle.rows.specs.Lent.{part_cut, length_lent}
+use Rattle.sub_mix.specs.SubMix.{mix_volume, send_row}
+use Rattle.sub_mix.proofs.send_destination.Goals as goal
+
+pub send_row-requires : goal.send_row-requires
+send_row-requires c =
+    let p = c.before.before.before.before.before.before.before.before.before.before.requires.1 in record { fact_1 = c.requires.fact_1; fact_2 = (p.1.0.1, p.1.0.2); fact_3 = (c.row_of-row.ensures.1, p.1.1.1, length_lent c.args.destinations.now (c.args.d * 48) 24 p.0.1) }
+
+pub returns : goal.returns
+returns c =
+    c.send_row.ensures
+    ∙ (λ j. send_row c.args.n c.args.mixes.now (c.row_of-row.ensures.0 j) c.args.to (mix_volume c.args.volumes.now c.args.m) (part_cut c.args.destinations.now (c.args.d * 48) 24 j) c.args.buffers.now)

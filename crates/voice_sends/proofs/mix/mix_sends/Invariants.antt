@@ -1,0 +1,17 @@
+use mathlib.Core.Path.{refl, ap, ◌∙◌}
+use Prim.Native.Nat.{ℕ, ◌*◌, ◌-◌}
+use native.Mathlib.Omega.{arith}
+use borrow.Author.Rules.{rules}
+use lib.ListN.{length, get_or}
+use Rattle.desk_rows.specs.DeskRows.{mix_offset, mix_buffers}
+use Rattle.voice_sends.specs.Sending.{passing, sent, mix_sends}
+use Rattle.rows.specs.Loops.{Turning, turn_begin, turn_more, turn_end}
+use Rattle.voice_sends.specs.Sizes.{Sizes, sent_keeps}
+use Rattle.voice_sends.proofs.mix.mix_sends.Given as goal
+
+abbrev pub invariant-loop-c : goal.invariant-loop-c
+invariant-loop-c l =
+    Turning (Sizes (length l.initial.buffers) (l.nc * 48)) (λ k. sent l.n l.out (mix_offset l.mixes l.m) (mix_buffers l.mixes l.m) k (get_or l.ids k 0)) l.channels (passing l.initial.buffers l.initial.resources) (passing l.buffers l.resources) l.c
+
+abbrev pub decreases-loop-c : goal.decreases-loop-c
+decreases-loop-c l = l.channels - l.c
