@@ -1,0 +1,14 @@
+-- `mixes::mix_id` meets its contract. Assumes nothing.
+use mathlib.Core.Path.{ap, ◌∙◌}
+use borrow.Author.Rules.{rules}
+use Rattle.fields.specs.Fields.{positive}
+use Rattle.desk_mixes.specs.Mixes.{mix_id}
+use Rattle.desk_mixes.proofs.mixes.mix_id.Goals as goal
+
+pub returns-then-dirty : goal.returns-then-dirty
+unfolding mix_id
+returns-then-dirty c = simp c.if-dirty.true (c.positive.ensures ∙ ap positive c.u32_at.ensures)
+
+pub returns : goal.returns
+unfolding mix_id
+returns c = simp c.if-dirty.false

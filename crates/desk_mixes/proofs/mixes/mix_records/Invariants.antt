@@ -1,0 +1,14 @@
+use Prim.Native.Nat.{◌-◌}
+use native.Mathlib.Omega.{arith}
+use borrow.Author.Rules.{rules}
+use Rattle.rows.specs.Loops.{Turning, turn_begin, turn_more, turn_end}
+use Rattle.desk_mixes.specs.Mixes.{mix_rows, mix_step, mix_records}
+use Rattle.desk_mixes.specs.MixLaws.{Sized, step_sized}
+use Rattle.desk_mixes.proofs.mixes.mix_records.Given as goal
+
+abbrev pub invariant-loop-i : goal.invariant-loop-i
+invariant-loop-i l =
+    Turning (Sized l.n) (mix_step l.dirty l.d l.n) l.count (mix_rows l.initial.words l.initial.floats) (mix_rows l.words l.floats) l.i
+
+abbrev pub decreases-loop-i : goal.decreases-loop-i
+decreases-loop-i l = l.count - l.i

@@ -1,0 +1,16 @@
+-- `mixes::put_volumes` meets its contract. Assumes nothing.
+use mathlib.Core.Path.{◌∙◌}
+use native.Mathlib.Omega.{arith}
+use borrow.Author.Rules.{rules}
+use lib.ListN.{length-set}
+use Rattle.desk.specs.Records.{float_at}
+use Rattle.desk_mixes.proofs.MixRow.{volumes}
+use Rattle.desk_mixes.proofs.mixes.put_volumes.Goals as goal
+
+pub put_floats-requires : goal.put_floats-requires
+put_floats-requires c = (omega arith, omega arith, simp length-set (omega arith))
+
+pub returns : goal.returns
+unfolding float_at
+returns c =
+    volumes c.args.p.now c.args.at c.args.floats.now c.requires c.f32_at.ensures c.put_floats.ensures

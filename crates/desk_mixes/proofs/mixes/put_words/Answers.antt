@@ -1,0 +1,8 @@
+-- `mixes::put_words` meets its contract. Assumes nothing.
+use borrow.Author.Rules.{rules}
+use Rattle.desk_mixes.specs.Mixes.{mix_head}
+use Rattle.desk_mixes.proofs.mixes.put_words.Goals as goal
+
+pub returns : goal.returns
+unfolding mix_head
+returns c = cc

@@ -1,0 +1,15 @@
+use mathlib.Core.Path.{◌≡◌, refl}
+use Prim.Native.Nat.{ℕ, ◌+◌, ◌-◌, ◌*◌}
+use native.Mathlib.Omega.{arith}
+use lib.ListN.{length}
+use Rattle.rows.proofs.Filling.{Filling, fill_begin, fill_more, fill_end}
+use Rattle.dsp_header.specs.Header.{signed_at, coefficients_at}
+use Rattle.dsp_header.proofs.Numbers.{signed_is}
+use borrow.Author.Rules.{rules}
+use Rattle.dsp_header.proofs.read.coefficients.Given as goal
+
+abbrev pub invariant-loop-k : goal.invariant-loop-k
+invariant-loop-k l = (length l.initial.c ≡ 16) × Filling l.initial.c 16 (λ (i : ℕ). signed_at l.d (l.o + i * 2)) l.c l.k
+
+abbrev pub decreases-loop-k : goal.decreases-loop-k
+decreases-loop-k l = 16 - l.k

@@ -1,0 +1,15 @@
+use Prim.Native.Nat.{ℕ, ◌-◌, ◌≤◌}
+use mathlib.Core.Path.{◌≡◌, refl, sym, ap, ◌∙◌}
+use native.Mathlib.Omega.{arith}
+use borrow.Author.Tests.{eq-eqb, ne_eqb}
+use Rattle.dsp_header.specs.Big.{big}
+use Rattle.dsp_header.specs.Header.{padding_of}
+use Rattle.dsp_header.proofs.Numbers.{big_more, zero_byte}
+use borrow.Author.Rules.{rules}
+use Rattle.dsp_header.proofs.read.padding_is_zero.Given as goal
+
+abbrev pub invariant-loop-k : goal.invariant-loop-k
+invariant-loop-k l = (l.k ≤ 22) × (big l.k l.file 0x4a ≡ 0)
+
+abbrev pub decreases-loop-k : goal.decreases-loop-k
+decreases-loop-k l = 22 - l.k

@@ -1,0 +1,15 @@
+use Prim.Native.Nat.{ℕ, ◌-◌}
+use native.Mathlib.Omega.{arith}
+use lib.ListN.{length, get_or}
+use Rattle.rows.specs.Tables.{Joining, join_begin, join_room, join_step, join_end}
+use Rattle.fields.specs.Fields.{bytes_of}
+use Rattle.fields.specs.Writes.{length_bytes}
+use Rattle.reply_sections.specs.Bytes.{words_bytes}
+use borrow.Author.Rules.{rules}
+use Rattle.reply_sections.proofs.bytes.put_words.Given as goal
+
+abbrev pub invariant-loop-k : goal.invariant-loop-k
+invariant-loop-k l = Joining l.initial.out l.at (length l.words) 4 (λ (i : ℕ). bytes_of 4 (get_or l.words i 0)) l.out l.k
+
+abbrev pub decreases-loop-k : goal.decreases-loop-k
+decreases-loop-k l = length l.words - l.k

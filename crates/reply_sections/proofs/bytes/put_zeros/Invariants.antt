@@ -1,0 +1,14 @@
+use mathlib.Core.Path.{refl, ap, ◌∙◌}
+use Prim.Native.Nat.{ℕ, ◌-◌}
+use native.Mathlib.Omega.{arith}
+use Rattle.rows.specs.Rows.{put}
+use Rattle.rows.specs.Tables.{Tabling, table_begin, table_step, table_end}
+use Rattle.reply_sections.specs.Bytes.{table_zeros}
+use borrow.Author.Rules.{rules}
+use Rattle.reply_sections.proofs.bytes.put_zeros.Given as goal
+
+abbrev pub invariant-loop-k : goal.invariant-loop-k
+invariant-loop-k l = Tabling l.initial.out l.at l.n (λ (i : ℕ). 0) l.out l.k
+
+abbrev pub decreases-loop-k : goal.decreases-loop-k
+decreases-loop-k l = l.n - l.k

@@ -1,0 +1,16 @@
+use Prim.Native.Nat.{◌-◌}
+use native.Mathlib.Omega.{arith}
+use borrow.Author.Rules.{rules}
+use lib.Ieee.{nan}
+use lib.ListN.{length, get_or}
+use Rattle.session.specs.Text.{text}
+use Rattle.session.specs.Lines.{float_text, floats_text}
+use Rattle.session.specs.Written.{Writing, write_begin, write_room, write_more, write_end}
+use Rattle.session.specs.Words.{length_float}
+use Rattle.session.proofs.lines.put_floats.Given as goal
+
+abbrev pub invariant-loop-k : goal.invariant-loop-k
+invariant-loop-k l = Writing (text l.initial.out l.at) (length l.s) 9 (λ i. float_text (get_or l.s i nan)) l.out l.end l.k
+
+abbrev pub decreases-loop-k : goal.decreases-loop-k
+decreases-loop-k l = length l.s - l.k

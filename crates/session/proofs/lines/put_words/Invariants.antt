@@ -1,0 +1,17 @@
+use mathlib.Core.Path.{ap, ◌∙◌}
+use Prim.Native.Nat.{ℕ, ◌+◌, ◌-◌, ◌*◌, ◌/◌}
+use native.Mathlib.Omega.{arith}
+use borrow.Author.Rules.{rules}
+use lib.ListN.{length}
+use Rattle.fields.specs.Fields.{le}
+use Rattle.session.specs.Text.{text, append}
+use Rattle.session.specs.Lines.{word_text, words_text}
+use Rattle.session.specs.Written.{Writing, write_begin, write_room, write_more, write_end}
+use Rattle.session.specs.Words.{length_word}
+use Rattle.session.proofs.lines.put_words.Given as goal
+
+abbrev pub invariant-loop-k : goal.invariant-loop-k
+invariant-loop-k l = Writing (text l.initial.out l.at) ((length l.d + 3) / 4) 14 (λ i. word_text (4 * i) (le 4 l.d (4 * i))) l.out l.end l.k
+
+abbrev pub decreases-loop-k : goal.decreases-loop-k
+decreases-loop-k l = l.n - l.k

@@ -1,0 +1,20 @@
+-- `voice::promote` meets its contract. The loop's invariant: the slots before k are promoted. Assumes nothing.
+use Rattle.std.proofs.Common.{◌≡◌, ◌-◌, ◌≤◌, sym, ◌∙◌, arith, rules}
+use lib.ListN.{length-map}
+use Rattle.voice.specs.Slots.{promote_to, promote_begin, promote_more, promote_end}
+use Rattle.voice.proofs.ready.promote.Goals as goal
+
+pub loop-k-init : goal.loop-k-init
+loop-k-init c = (omega arith, promote_begin _)
+
+pub loop-k-smaller : goal.loop-k-smaller
+loop-k-smaller c = omega arith
+
+pub loop-k-preserved : goal.loop-k-preserved
+loop-k-preserved c = (omega arith, promote_more _ _ c.loop-k.invariant.1 c.promote_slot-w.ensures)
+
+pub returns : goal.returns
+returns c =
+    let q = c.args.q in
+    promote_end _ q (omega arith) (sym (length-map q.buffers _) ∙ c.well_formed.0.1.1.0.1.0.1) (sym (length-map q.valid _) ∙ c.well_formed.0.1.1.1.0.1.0.1)
+    c.loop-k.invariant.1
