@@ -11,12 +11,12 @@ use Rattle.reply_sections.proofs.effects.put_effects.Goals as goal
 use Rattle.reply_sections.proofs.effects.put_effects.Goals.{After-put_effect-arg-1, In-loop-i}
 
 -- the place of effect i's byte
-share : (c : In-loop-i) → c.loop-i.i * c.args.stride-in < 2 ^ 38
+share : (c : In-loop-i) → c.loop-i.i * c.args.stride_in < 2 ^ 38
 share c =
     share_small _ _ _ c.loop-i-test.true c.requires.n_bound c.requires.stride_in_bound
 
 -- effect i's row is inside
-room : (c : After-put_effect-arg-1) → c.args.at + c.loop-i.i * c.args.stride-out + c.args.stride-out ≤ length c.loop-i.out
+room : (c : After-put_effect-arg-1) → c.args.at + c.loop-i.i * c.args.stride_out + c.args.stride_out ≤ length c.loop-i.out
 room c = join_room c.loop-i.invariant (length_effect_at _ _ _) (omega arith) (omega arith)
 
 pub loop-i-init : goal.loop-i-init
@@ -42,7 +42,7 @@ unfolding effect_at
 loop-i-preserved c =
     let l = c.loop-i in
     join_step l.invariant (length_effect_at _ _ _) (omega arith) (omega arith)
-    (c.put_effect.ensures ∙ ap (λ (v : ℕ). put l.out (c.args.at + l.i * c.args.stride-out) (effect_row c.args.stride-out v)) c.effect_state-state.ensures)
+    (c.put_effect.ensures ∙ ap (λ (v : ℕ). put l.out (c.args.at + l.i * c.args.stride_out) (effect_row c.args.stride_out v)) c.effect_state-state.ensures)
 
 pub returns : goal.returns
 returns c = join_end c.loop-i.invariant (length_effect_at _ _ _) (omega arith)
