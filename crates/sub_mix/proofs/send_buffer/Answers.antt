@@ -8,8 +8,7 @@ use Rattle.sub_mix.specs.SubMix.{mix_volume, send_row, send_buffer}
 use Rattle.sub_mix.proofs.send_buffer.Goals as goal
 
 pub send_row-requires : goal.send_row-requires
-send_row-requires c =
-    let p = (c.requires.fact_2, (c.requires.fact_3, c.requires.fact_4)) in record { fact_1 = c.requires.fact_1; fact_2 = (p.1.0.1, p.1.0.2); fact_3 = (omega (arith, c.offset_of.ensures.1), p.1.1.1, length_lent c.args.volumes.now (c.args.m * 577 + 1 + c.args.i * 24) 24 (omega (arith, p))) }
+send_row-requires c = record { fact_1 = c.requires.fact_1; fact_2 = (c.requires.fact_3.1, c.requires.fact_3.2); fact_3 = (omega (arith, c.offset_of.ensures.1), c.requires.fact_4.1, length_lent c.args.volumes.now (c.args.m * 577 + 1 + c.args.i * 24) 24 (omega (arith, c.requires.fact_2, c.requires.fact_3, c.requires.fact_4))) }
 
 pub returns : goal.returns
 unfolding send_buffer

@@ -7,8 +7,7 @@ use Rattle.sub_mix.specs.SubMix.{mix_volume, send_row}
 use Rattle.sub_mix.proofs.send_destination.Goals as goal
 
 pub send_row-requires : goal.send_row-requires
-send_row-requires c =
-    let p = (c.requires.fact_2, (c.requires.fact_3, c.requires.fact_4)) in record { fact_1 = c.requires.fact_1; fact_2 = (p.1.0.1, p.1.0.2); fact_3 = (c.row_of-row.ensures.1, p.1.1.1, length_lent c.args.destinations.now (c.args.d * 48) 24 p.0.1) }
+send_row-requires c = record { fact_1 = c.requires.fact_1; fact_2 = (c.requires.fact_3.1, c.requires.fact_3.2); fact_3 = (c.row_of-row.ensures.1, c.requires.fact_4.1, length_lent c.args.destinations.now (c.args.d * 48) 24 c.requires.fact_2.1) }
 
 pub returns : goal.returns
 returns c =

@@ -13,8 +13,7 @@ use Rattle.sub_mix.proofs.send_entries.Goals as goal
 
 pub loop-k-init : goal.loop-k-init
 loop-k-init c =
-    let p = (c.requires.fact_2, (c.requires.fact_3, (c.requires.fact_4, c.requires.fact_5))) in
-    (p.0.lengths (mix_splitter c.args.mixes.now c.args.m) p.1.1.1.1, turn_begin _ _ _ _ refl, p.1.1.0.2)
+    (c.requires.fact_2.lengths (mix_splitter c.args.mixes.now c.args.m) c.requires.fact_5.1, turn_begin _ _ _ _ refl, c.requires.fact_4.2)
 
 pub send_entry-requires : goal.send_entry-requires
 send_entry-requires c =

@@ -11,10 +11,8 @@ use Rattle.dsp_header.proofs.Numbers.{bits_are}
 use Rattle.dsp_header.specs.Header.{signed_bytes, coefficient_bytes}
 use Rattle.dsp_header.proofs.Sizes.{length_signed}
 use borrow.Author.Rules.{rules}
+use Rattle.dsp_header.proofs.write.put_coefficients.Invariants.{bytes_at}
 use Rattle.dsp_header.proofs.write.put_coefficients.Goals as goal
-
-abbrev bytes_at : List ℤ → ℕ → List ℕ
-bytes_at c k = signed_bytes (get_or c k (pos 0))
 
 two : (c : List ℤ) (k : ℕ) → length (bytes_at c k) ≡ 2
 two c k = length_signed (get_or c k (pos 0))

@@ -12,6 +12,9 @@ use Rattle.dsp_header.proofs.Sizes.{length_signed}
 use borrow.Author.Rules.{rules}
 use Rattle.dsp_header.proofs.write.put_coefficients.Given as goal
 
+abbrev pub bytes_at : List ℤ → ℕ → List ℕ
+bytes_at c k = signed_bytes (get_or c k (pos 0))
+
 abbrev pub invariant-loop-k : goal.invariant-loop-k
 invariant-loop-k l = Joining l.initial.out l.o 16 2 (bytes_at l.c) l.out l.k
 

@@ -5,4 +5,4 @@ use Rattle.session.specs.Input.{size_of}
 use Rattle.session.proofs.input.call_size.Goals as goal
 
 pub returns-in-Update : goal.returns-in-Update
-returns-in-Update c = ap size_of (sym c.c-1.given.1)
+returns-in-Update c = ap size_of (sym c.in-Update.is)

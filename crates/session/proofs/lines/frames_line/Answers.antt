@@ -12,13 +12,13 @@ pub put_floats-end-requires : goal.put_floats-end-requires
 put_floats-end-requires c =
     let s = c.args.frames.now in
     let near = head_near c.args.out.now frames_word (length s / 2) (floats_text s) (length s * 9) (length_floats s) (omega arith) c.put_head-head.ensures in
-    omega (arith, c.put_head-head.auto.0)
+    omega (arith, c.put_head-head.auto.out)
 
 pub put_byte-requires : goal.put_byte-requires
 put_byte-requires c =
     let s = c.args.frames.now in
     let near = rest_near c.args.out.now frames_word (length s / 2) (floats_text s) (length s * 9) (length_floats s) (omega arith) c.put_head-head.ensures c.put_floats-end.ensures in
-    omega (arith, c.put_head-head.auto.0, c.put_floats-end.auto.0)
+    omega (arith, c.put_head-head.auto.out, c.put_floats-end.auto.out)
 
 pub returns : goal.returns
 unfolding frames_line

@@ -11,7 +11,7 @@ use Rattle.session.proofs.lines.put_float.Goals as goal
 
 pub put_hex-requires : goal.put_hex-requires
 put_hex-requires c =
-    omega (arith, end_is _ _ c.put_byte-digits.ensures, c.put_byte-digits.auto.0)
+    omega (arith, end_is _ _ c.put_byte-digits.ensures, c.put_byte-digits.auto.out)
 
 pub returns : goal.returns
 returns c =

@@ -7,7 +7,7 @@ use Rattle.session.proofs.lines.put_head.Goals as goal
 
 pub put_decimal-requires : goal.put_decimal-requires
 put_decimal-requires c =
-    omega (arith, end_is _ _ c.put_bytes-at.ensures, c.put_bytes-at.auto.0)
+    omega (arith, end_is _ _ c.put_bytes-at.ensures, c.put_bytes-at.auto.out)
 
 pub returns : goal.returns
 returns c =

@@ -16,11 +16,11 @@ returns-then-v-eq0 c = word_none _ _ _ c.if-v-eq0.true (omega arith)
 
 pub put_hex-colon-requires : goal.put_hex-colon-requires
 put_hex-colon-requires c =
-    omega (arith, end_is _ _ c.put_byte-first.ensures, c.put_byte-first.auto.0)
+    omega (arith, end_is _ _ c.put_byte-first.ensures, c.put_byte-first.auto.out)
 
 pub put_byte-second-requires : goal.put_byte-second-requires
 put_byte-second-requires c =
-    omega (arith, end_is _ _ c.put_byte-first.ensures, end_is _ _ c.put_hex-colon.ensures, length_hex 4 c.args.offset, c.put_byte-first.auto.0, c.put_hex-colon.auto.0)
+    omega (arith, end_is _ _ c.put_byte-first.ensures, end_is _ _ c.put_hex-colon.ensures, length_hex 4 c.args.offset, c.put_byte-first.auto.out, c.put_hex-colon.auto.out)
 
 pub put_hex-requires : goal.put_hex-requires
 put_hex-requires c =
@@ -30,9 +30,9 @@ put_hex-requires c =
       end_is _ _ c.put_hex-colon.ensures,
       end_is _ _ c.put_byte-second.ensures,
       length_hex 4 c.args.offset,
-      c.put_byte-first.auto.0,
-      c.put_hex-colon.auto.0,
-      c.put_byte-second.auto.0,
+      c.put_byte-first.auto.out,
+      c.put_hex-colon.auto.out,
+      c.put_byte-second.auto.out,
     )
 
 pub returns : goal.returns

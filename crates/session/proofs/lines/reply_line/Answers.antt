@@ -11,13 +11,13 @@ use Rattle.session.proofs.lines.reply_line.Goals as goal
 pub put_words-end-requires : goal.put_words-end-requires
 put_words-end-requires c =
     let s = c.args.reply.now in
-    let near = head_near c.args.out.now reply_word (length s) (words_text s) ((length s + 3) / 4 * 14) (length_words s) (omega arith) c.put_head-head.ensures in record { d_len_bound = omega arith; d_in_bounds = omega (arith, c.put_head-head.auto.0) }
+    let near = head_near c.args.out.now reply_word (length s) (words_text s) ((length s + 3) / 4 * 14) (length_words s) (omega arith) c.put_head-head.ensures in record { d_len_bound = omega arith; d_in_bounds = omega (arith, c.put_head-head.auto.out) }
 
 pub put_byte-requires : goal.put_byte-requires
 put_byte-requires c =
     let s = c.args.reply.now in
     let near = rest_near c.args.out.now reply_word (length s) (words_text s) ((length s + 3) / 4 * 14) (length_words s) (omega arith) c.put_head-head.ensures c.put_words-end.ensures in
-    omega (arith, c.put_head-head.auto.0, c.put_words-end.auto.0)
+    omega (arith, c.put_head-head.auto.out, c.put_words-end.auto.out)
 
 pub returns : goal.returns
 unfolding reply_line
