@@ -6,7 +6,7 @@ use Rattle.voice.proofs.ready.any_valid.Goals as goal
 use Rattle.voice.proofs.ready.any_valid.Goals.{Start}
 
 four_valid : (c : Start) → Four c.args.q.valid
-four_valid c = is_four c.args.q.valid (sym (length-map c.args.q.valid (λ b. b)) ∙ c.well_formed.0.1.1.1.0.1.0.1)
+four_valid c = is_four c.args.q.valid (c.well_formed.0.1.1.1.0.1.0.1)
 
 pub returns-then-v : goal.returns-then-v
 returns-then-v c = any_four (four_valid (goal.at.returns-then-v c).Start) c.if-v.true refl refl

@@ -10,5 +10,5 @@ returns-then-count-lt5 c = record { queue_value = c.walk.ensures.queue_value; tu
 pub returns : goal.returns
 returns c =
     let q = c.args.q in
-    let lb = sym (length-map q.buffers _) ∙ c.well_formed.0.1.1.0.1.0.1 in
-    let lv = sym (length-map q.valid _) ∙ c.well_formed.0.1.1.1.0.1.0.1 in record { queue_value = flush_rest q lb lv c.args.count c.args.base c.requires (omega arith) c.walk-f.ensures.queue_value c.wrapping_add_u32.ensures.value c.wrapping_add_u32-2.ensures.value; turns_value = c.walk-f.ensures.turns_value ∙ omega arith }
+    let lb = c.well_formed.0.1.1.0.1.0.1 in
+    let lv = c.well_formed.0.1.1.1.0.1.0.1 in record { queue_value = flush_rest q lb lv c.args.count c.args.base c.requires (omega arith) c.walk-f.ensures.queue_value c.wrapping_add_u32.ensures.value c.wrapping_add_u32-2.ensures.value; turns_value = c.walk-f.ensures.turns_value ∙ omega arith }

@@ -16,5 +16,5 @@ loop-k-preserved c = (omega arith, promote_more _ _ c.loop-k.invariant.1 c.promo
 pub returns : goal.returns
 returns c =
     let q = c.args.q in
-    promote_end _ q (omega arith) (sym (length-map q.buffers _) ∙ c.well_formed.0.1.1.0.1.0.1) (sym (length-map q.valid _) ∙ c.well_formed.0.1.1.1.0.1.0.1)
+    promote_end _ q (omega arith) (c.well_formed.0.1.1.0.1.0.1) (c.well_formed.0.1.1.1.0.1.0.1)
     c.loop-k.invariant.1

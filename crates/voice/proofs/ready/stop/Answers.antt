@@ -19,5 +19,5 @@ loop-k-preserved c = stop_more _ _ c.loop-k-test.true c.loop-k.invariant c.stop_
 pub returns : goal.returns
 returns c =
     let q = c.args.q in
-    stop_end q _ c.loop-k-test.false (sym (length-map q.buffers _) ∙ c.well_formed.0.1.1.0.1.0.1) (sym (length-map q.valid _) ∙ c.well_formed.0.1.1.1.0.1.0.1) c.requires
+    stop_end q _ c.loop-k-test.false (c.well_formed.0.1.1.0.1.0.1) (c.well_formed.0.1.1.1.0.1.0.1) c.requires
     (omega arith) c.loop-k.invariant
