@@ -1,0 +1,13 @@
+use mathlib.Core.Path.{sym, subst}
+use Prim.Native.Nat.{ℕ, ◌+◌, ◌-◌, ◌≤◌}
+use native.Mathlib.Omega.{arith}
+use lib.Dec.{T}
+use lib.ListN.{get_or}
+use Rattle.voice_rows.proofs.Tested.{Tested, none, more, passed}
+use Rattle.voice_rows.proofs.idle_row.flags_stored.Given as goal
+
+abbrev pub invariant-loop-k : goal.invariant-loop-k
+invariant-loop-k l = Tested (λ (j : ℕ). get_or l.words (l.at + j) 0 ≤ 1) l.k
+
+abbrev pub decreases-loop-k : goal.decreases-loop-k
+decreases-loop-k l = 4 - l.k

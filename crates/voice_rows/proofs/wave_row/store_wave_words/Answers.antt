@@ -1,0 +1,10 @@
+-- `voice_rows::store_wave_words` meets its contract: the copied row is the one made. Assumes nothing.
+use mathlib.Core.Path.{ap, ◌∙◌}
+use Rattle.rows.specs.Rows.{put}
+use Rattle.voice_rows.specs.WaveRow.{words_of_wave}
+use borrow.Author.Rules.{rules}
+use Rattle.voice_rows.proofs.wave_row.store_wave_words.Goals as goal
+
+pub returns : goal.returns
+unfolding words_of_wave
+returns c = c.copy_in_u32.ensures ∙ ap (put _ _) c.words_of_wave-row.ensures
