@@ -1,0 +1,11 @@
+-- `turn::freshen` meets its contract: each way out is a case of the test. Assumes nothing.
+use Rattle.turn.specs.Turn.{freshened}
+use Rattle.turn.proofs.freshen.Goals as goal
+
+pub returns-then-v : goal.returns-then-v
+unfolding freshened
+returns-then-v c = rw c.if-v.true
+
+pub returns : goal.returns
+unfolding freshened
+returns c = rw c.if-v.false
