@@ -1,6 +1,5 @@
 -- `dsp_file::dsp_data` meets its contract. Assumes nothing.
 use Rattle.dsp_file.specs.File.{data_of}
-use borrow.Author.Rules.{rules}
 use Rattle.dsp_file.proofs.dsp_data.Goals as goal
 
 pub returns : goal.returns

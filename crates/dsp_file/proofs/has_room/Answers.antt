@@ -5,7 +5,6 @@ use native.Mathlib.Omega.{arith}
 use borrow.Author.Tests.{le-leb, lt-leb}
 use Rattle.dsp_header.specs.Header.{header_size}
 use Rattle.dsp_file.specs.File.{has_room}
-use borrow.Author.Rules.{rules}
 use Rattle.dsp_file.proofs.has_room.Goals as goal
 
 pub returns-then-output-lt-HEADER_BYTES : goal.returns-then-output-lt-HEADER_BYTES

@@ -3,7 +3,6 @@ use Prim.Native.Nat.{ℕ}
 use mathlib.Core.Path.{ap}
 use lib.Dec.{leb}
 use Rattle.dsp_file.specs.File.{holds_samples}
-use borrow.Author.Rules.{rules}
 use Rattle.dsp_file.proofs.holds_samples.Goals as goal
 
 pub returns : goal.returns

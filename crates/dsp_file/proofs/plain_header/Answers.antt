@@ -1,7 +1,6 @@
 -- `dsp_file::plain_header` meets its contract. Assumes nothing.
 use native.Mathlib.Omega.{arith}
 use borrow.Author.Tests.{eq-eqb, ne_eqb}
-use borrow.Author.Rules.{rules}
 use Rattle.dsp_file.proofs.plain_header.Goals as goal
 
 pub returns-then-format-ne0 : goal.returns-then-format-ne0

@@ -1,16 +1,14 @@
 -- `dsp_file::read_dsp` meets its contract: each answer is that of the questions asked so far. Assumes nothing.
 use Prim.Native.Nat.{◌-◌}
 use mathlib.Core.Bool.{true}
-use mathlib.Core.List.{List}
 use mathlib.Core.Path.{◌≡◌, refl, sym, ap, ◌∙◌}
 use native.Mathlib.Omega.{arith}
-use borrow.Author.Tests.{not-true, not-false, le-leb, lt-leb}
+use borrow.Author.Tests.{le-leb, lt-leb}
 use lib.Dec.{leb, eqb}
 use lib.ListN.{length}
 use Rattle.dsp_header.specs.Header.{header_size, header_of, padding_of}
 use Rattle.dsp_file.specs.File.{plain_header, holds_samples, read_seen, read_left}
 use Rattle.dsp_file.proofs.Asked.{read_is}
-use borrow.Author.Rules.{rules}
 use Rattle.dsp_file.proofs.read_dsp.Goals as goal
 use Rattle.dsp_file.proofs.read_dsp.Goals.{After-holds_samples, After-plain_header, Else-file-lt-HEADER_BYTES, Else-not-padding_is_zero, Else-not-plain_header}
 
@@ -24,7 +22,8 @@ unfolding plain_header
 plain c = ap plain_header (sym c.read_header-header.ensures) ∙ sym c.plain_header.ensures
 
 plain_yes : (c : Else-not-plain_header) → plain_header (header_of c.args.file.now) ≡ true
-plain_yes c = plain c.before ∙ c.if-not-plain_header.false
+unfolding plain_header
+plain_yes c = ap plain_header (sym c.read_header-header.ensures) ∙ sym c.plain_header.ensures ∙ c.if-not-plain_header.false
 
 padding_yes : (c : Else-not-padding_is_zero) → eqb (padding_of c.args.file.now) 0 ≡ true
 padding_yes c = sym c.padding_is_zero.ensures ∙ c.if-not-padding_is_zero.false

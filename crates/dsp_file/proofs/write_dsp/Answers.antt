@@ -3,14 +3,13 @@ use Prim.Native.Nat.{◌+◌, ◌≤◌}
 use mathlib.Core.Bool.{true}
 use mathlib.Core.Path.{◌≡◌, refl, sym, ap, ◌∙◌}
 use native.Mathlib.Omega.{arith}
-use borrow.Author.Tests.{not-true, not-false, leb-true}
+use borrow.Author.Tests.{leb-true}
 use lib.ListN.{length}
 use Rattle.dsp_header.specs.Header.{header_size, header_bytes}
 use Rattle.dsp_header.proofs.Laid.{laid_first, laid_next}
 use Rattle.dsp_header.proofs.Sizes.{length_header}
 use Rattle.dsp_file.specs.File.{plain_header, has_room, write_left}
 use Rattle.dsp_file.proofs.Asked.{write_is}
-use borrow.Author.Rules.{rules}
 use Rattle.dsp_file.proofs.write_dsp.Goals as goal
 use Rattle.dsp_file.proofs.write_dsp.Goals.{After-plain_header, Else-not-has_room, Else-not-holds_samples, Else-not-plain_header}
 
@@ -21,7 +20,8 @@ unfolding plain_header
 plain c = sym c.plain_header.ensures
 
 plain_yes : (c : Else-not-plain_header) → plain_header c.args.header ≡ true
-plain_yes c = plain c.before ∙ c.if-not-plain_header.false
+unfolding plain_header
+plain_yes c = sym c.plain_header.ensures ∙ c.if-not-plain_header.false
 
 holds_yes : (c : Else-not-holds_samples) → c.holds_samples.result ≡ true
 holds_yes c = c.if-not-holds_samples.false
