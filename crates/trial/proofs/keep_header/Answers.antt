@@ -1,12 +1,11 @@
 -- `trial::keep_header` meets its contract: no header so far has a sum below the limit. Assumes nothing.
-use Prim.Native.Nat.{ℕ, ◌+◌, ◌-◌, ◌<◌}
-use borrow.Author.Rules.{rules}
+use Prim.Native.Nat.{ℕ, ◌+◌, ◌<◌}
 use native.Mathlib.Omega.{arith}
 use mir.Syntax.{w16}
 use mir.Val.{to_z, of_z}
 use mir.Facts.{to_z-of_z}
 use Rattle.trial.specs.Trial.{error_of}
-use Rattle.trial.proofs.Keeping.{Keeping, keeps_by, keep_begin, keep_more, keep_end}
+use Rattle.trial.proofs.Keeping.{keeps_by, keep_begin, keep_more, keep_end}
 use Rattle.trial.proofs.keep_header.Goals as goal
 use Rattle.trial.proofs.keep_header.Goals.{After-try_header-known}
 
@@ -25,10 +24,10 @@ pub loop-b-preserved : goal.loop-b-preserved
 loop-b-preserved c =
     let l = c.loop-b in
     let more : l.b < 128 = omega (arith, c.loop-b-test.true) in
-    keep_more _ _ l.auto l.b _ l.invariant c.try_header-error.ensures.0 _ more c.better-kept.ensures
+    keep_more _ _ l.kept l.b _ l.invariant c.try_header-error.ensures.0 _ more c.better-kept.ensures
 
 pub returns : goal.returns
 returns c =
     let l = c.loop-b in
-    keeps_by (to_z-of_z (a (goal.at.returns c).After-try_header-known).ranges.h0) (to_z-of_z (a (goal.at.returns c).After-try_header-known).ranges.h1)
-    (keep_end _ _ _ _ (a (goal.at.returns c).After-try_header-known).args.seed _ l.auto l.b (omega arith) (seed_below (goal.at.returns c).After-try_header-known) c.loop-b-test.false l.invariant)
+    keeps_by (to_z-of_z c.ranges.h0) (to_z-of_z c.ranges.h1)
+    (keep_end _ _ _ _ c.args.seed _ l.kept l.b (omega arith) (seed_below (goal.at.returns c).After-try_header-known) c.loop-b-test.false l.invariant)

@@ -2,7 +2,6 @@
 use mathlib.Core.Path.{◌≡◌, ap, ◌∙◌}
 use mathlib.Core.List.{List}
 use Prim.Native.Nat.{ℕ, ◌%◌, min}
-use borrow.Author.Rules.{rules}
 use lib.IntN.{ℤ}
 use mir.Syntax.{w16}
 use mir.Val.{to_z, of_z}
@@ -33,7 +32,7 @@ module _ (c : After-try_pair) where
       (to_z w16 (of_z w16 c.args.h0)) (to_z w16 (of_z w16 c.args.h1))
       ≡ error_of k ts c.args.h0 c.args.h1 b
   unfolding error_of
-  sum_is = λ i. sum_of (b % 16) (first_is i) (second_is i) ts (to_z-of_z c.before.before.before.fits.h0 i) (to_z-of_z c.before.before.before.fits.h1 i)
+  sum_is = λ i. sum_of (b % 16) (first_is i) (second_is i) ts (to_z-of_z c.ranges.h0 i) (to_z-of_z c.ranges.h1 i)
 
 pub returns : goal.returns
 returns c = (c.try_pair.ensures.0 ∙ ap (min c.args.limit) (sum_is c), c.try_pair.ensures.1)
