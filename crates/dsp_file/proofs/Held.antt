@@ -1,9 +1,9 @@
 -- Question 12 says just whether the decoder gives all samples. Assumes nothing.
-use Prim.Native.Nat.{ℕ, ◌+◌, ◌-◌, ◌*◌, ◌/◌, ◌%◌, ◌≤◌, ◌<◌, min}
+use Prim.Native.Nat.{ℕ, ◌+◌, ◌%◌, ◌≤◌, ◌<◌, min}
 use mathlib.Core.Bool.{Bool, true, false, false≢true}
 use mathlib.Core.List.{List}
-use mathlib.Core.Logic.{◌≢◌, ◌↔◌, ◌⊎◌, ⊎_elim}
-use mathlib.Core.Path.{◌≡◌, refl, sym, ap, ◌∙◌}
+use mathlib.Core.Logic.{◌≢◌, ◌↔◌, ⊎_elim}
+use mathlib.Core.Path.{◌≡◌, refl, ap, ◌∙◌}
 use native.Mathlib.Nat.{zero-add, eq-zero-or-pos}
 use native.Mathlib.Omega.{arith}
 use borrow.Author.Tests.{leb-true, le-leb}
@@ -12,7 +12,7 @@ use lib.ListN.{length}
 use Rattle.adpcm.specs.declared.context.AdpcmContext.{AdpcmContext}
 use Rattle.adpcm.specs.Places.{nibble_of, size_of, held_of, nibble_at_lem}
 use Rattle.adpcm.specs.Decode.{run_of}
-use Rattle.adpcm.specs.Runs.{count_of, run_count}
+use Rattle.adpcm.specs.Runs.{run_count}
 use Rattle.adpcm.specs.Counts.{count_held}
 use Rattle.dsp_header.specs.Header.{header_of}
 use Rattle.dsp_file.specs.File.{plain_file, holds_samples, data_of, read_by, read_call}

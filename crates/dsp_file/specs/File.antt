@@ -1,6 +1,6 @@
 -- What reading and writing a DSP file answer. Definitions only.
-use Rattle.std.specs.Prelude.{ℕ, ◌+◌, ◌-◌, Bool, true, false, ◌&&◌, leb, eqb, pos, length}
-use mathlib.Core.List.{List, [], ◌++◌, replicate}
+use Rattle.std.specs.Prelude.{ℕ, ◌+◌, Bool, true, false, ◌&&◌, leb, eqb, pos, length}
+use mathlib.Core.List.{List, ◌++◌, replicate}
 use Rattle.rows.specs.Rows.{put}
 use Rattle.fields.specs.Fields.{rest_of}
 use Rattle.adpcm.specs.Places.{size_of}

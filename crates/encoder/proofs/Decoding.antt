@@ -1,18 +1,16 @@
 -- What a call that is not refused leaves, given back to the decoder: the samples that the encoder predicted, the context that it gave back,
 -- and the sum of squared differences. Assumes nothing.
 use Prim.Native.Nat.{ℕ, ◌+◌, ◌-◌, ◌/◌, ◌≤◌, ◌^◌}
-use mathlib.Core.Path.{◌≡◌, refl, sym, ap, ◌∙◌}
-use mathlib.Core.Bool.{cond}
+use mathlib.Core.Path.{◌≡◌, sym, ap, ◌∙◌}
 use mathlib.Core.List.{List, ◌++◌}
 use native.Mathlib.Omega.{arith}
 use borrow.Author.Tests.{le-leb}
-use lib.Dec.{leb}
 use lib.Ieee.{Float}
 use lib.IntN.{ℤ}
 use lib.ListN.{length, drop}
 use Rattle.adpcm.specs.Places.{size_of}
 use Rattle.adpcm.specs.Decode.{Run, run_of, floated}
-use Rattle.adpcm.specs.Answer.{Outcome, ran, outcome_of}
+use Rattle.adpcm.specs.Answer.{ran, outcome_of}
 use Rattle.adpcm.specs.declared.context.AdpcmContext.{AdpcmContext}
 use Rattle.trial.specs.Trial.{squared_error}
 use Rattle.encoder.specs.Encode.{Encoded, encoded_of, saturated}

@@ -1,7 +1,7 @@
 -- Computed encodings, with every header and every nibble tried. Assumes nothing.
 use Prim.Native.Nat.{ℕ}
 use mathlib.Core.Path.{◌≡◌, refl}
-use mathlib.Core.List.{List, [], ◌∷◌, ◌++◌, map}
+use mathlib.Core.List.{List, [], ◌∷◌, map}
 use lib.IntN.{ℤ, pos, negsuc}
 use Rattle.adpcm.specs.Places.{nibble_of, size_of}
 use Rattle.adpcm.specs.Step.{signed4, clamp_z, step_of}
@@ -10,7 +10,7 @@ use Rattle.nearest.specs.Least.{better, least_of}
 use Rattle.nearest.specs.Nearest.{difference_of, difference_at, nearest_of}
 use Rattle.trial.specs.Trial.{squared_error, nearest_sample, nibbles_of, reconstructed_of, error_of, kept_of}
 use Rattle.encoder.specs.Encode.{packed, context_after, frame_with, encoded_from}
-use Rattle.encoder.specs.Answer.{EncodeOutcome, encode_call}
+use Rattle.encoder.specs.Answer.{encode_call}
 
 abbrev context : ℕ → ℤ → ℤ → AdpcmContext
 context header h0 h1 = record { pred_scale = header; history0 = h0; history1 = h1 }

@@ -1,6 +1,6 @@
 -- The one nibble that can be unused, the low half of the last byte, is 0. Assumes nothing.
-use Prim.Native.Nat.{ℕ, zero, suc, ◌+◌, ◌*◌, ◌-◌, ◌/◌, ◌%◌, ◌≤◌, ◌<◌, min}
-use mathlib.Core.Path.{◌≡◌, refl, sym, ap, ◌∙◌}
+use Prim.Native.Nat.{ℕ, zero, suc, ◌+◌, ◌*◌, ◌-◌, ◌/◌, ◌%◌, ◌<◌}
+use mathlib.Core.Path.{◌≡◌, sym, ap, ◌∙◌}
 use mathlib.Core.List.{List, [], ◌∷◌, ◌++◌, append-nil}
 use native.Mathlib.Omega.{arith}
 use lib.IntN.{ℤ}
@@ -10,7 +10,7 @@ use Rattle.adpcm.specs.Places.{size_of}
 use Rattle.adpcm.specs.declared.context.AdpcmContext.{AdpcmContext}
 use Rattle.trial.specs.Trial.{frame_samples, pair_first, pair_second, nibbles_of, kept_of}
 use Rattle.trial.proofs.Trial.{length_nibbles}
-use Rattle.encoder.specs.Encode.{packed, Encoded, frame_with, frame_of, encoded_from, encoded_of}
+use Rattle.encoder.specs.Encode.{packed, frame_with, frame_of, encoded_from, encoded_of}
 use Rattle.encoder.proofs.Packed.{length_packed}
 use Rattle.encoder.proofs.Sizes.{Count, count_of, count_next, length_encoded, length_frame_with}
 

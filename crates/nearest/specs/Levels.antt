@@ -1,6 +1,6 @@
 -- The samples that the sixteen nibbles decode to, in offset binary, where all sums are of natural numbers: they rise by the step 2^scale
 -- from one nibble to the next, and the nearest is worked out. Definitions only.
-use Rattle.std.specs.Prelude.{ℕ, ◌+◌, ◌*◌, ◌-◌, ◌/◌, ◌≤◌, ◌<◌, ◌^◌, min, ◌≡◌, cond, leb, ℤ, pos, negsuc, nat_abs, ◌+ℤ◌, ◌*ℤ◌}
+use Rattle.std.specs.Prelude.{ℕ, ◌+◌, ◌*◌, ◌-◌, ◌/◌, ◌<◌, ◌^◌, min, ◌≡◌, cond, leb, ℤ, pos, negsuc, nat_abs, ◌+ℤ◌, ◌*ℤ◌}
 use Rattle.nearest.specs.Least.{least_of}
 
 -- a sample in offset binary: -32768 to 32767 as 0 to 65535

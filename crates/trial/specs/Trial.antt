@@ -1,6 +1,6 @@
 -- One frame tried with one header: the nibbles in turn, what they decode to, and the sum of squared differences; and the header that is
 -- kept. Definitions only.
-use Rattle.std.specs.Prelude.{ℕ, zero, suc, ◌+◌, ◌*◌, ◌/◌, ◌%◌, ℤ, pos, get_or}
+use Rattle.std.specs.Prelude.{ℕ, ◌+◌, ◌*◌, ◌%◌, ℤ, pos, get_or}
 use mathlib.Core.List.{List, [], ◌∷◌}
 use Rattle.adpcm.specs.Step.{step_of}
 use Rattle.adpcm.specs.Decode.{pair_of}

@@ -1,7 +1,6 @@
 -- `across::coefficients` meets its contract: what the stretch has room for lies in the slice. Assumes nothing.
 use mathlib.Core.Path.{refl, ap, ◌∙◌}
 use native.Mathlib.Omega.{arith}
-use borrow.Author.Rules.{rules}
 use Rattle.adpcm.specs.Context.{coefficients_of}
 use Rattle.across.specs.Lengths.{table_bytes}
 use Rattle.across.proofs.Lying.{lies}

@@ -1,6 +1,5 @@
 -- `across::context_across` meets its contract: what can be read is gathered. Assumes nothing.
 use mathlib.Core.Path.{sym, ap, ◌∙◌}
-use borrow.Author.Rules.{rules}
 use Rattle.memory.proofs.Bytes.{read_refused}
 use Rattle.adpcm.specs.Context.{context_of}
 use Rattle.across.specs.Lengths.{context_bytes}

@@ -1,5 +1,4 @@
 -- `across::decode_across` meets its contract: the front that is lent is as long as the read. Assumes nothing.
-use borrow.Author.Rules.{rules}
 use mathlib.Core.Path.{sym, ap, ◌∙◌}
 use Prim.Native.Nat.{ℕ}
 use lib.ListN.{replicate}

@@ -1,5 +1,4 @@
 -- `across::decode_adpcm` meets its contract: what the stretch has room for lies in the slice. Assumes nothing.
-use borrow.Author.Rules.{rules}
 use mathlib.Core.Path.{refl}
 use native.Mathlib.Omega.{arith}
 use Rattle.across.proofs.Lying.{lies}

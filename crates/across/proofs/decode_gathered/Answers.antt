@@ -1,5 +1,4 @@
 -- `across::decode_gathered` meets its contract: it decodes what `gather` left. Assumes nothing.
-use borrow.Author.Rules.{rules}
 use Rattle.across.proofs.SameBytes.{decodes_same}
 use Rattle.across.proofs.decode_gathered.Goals as goal
 

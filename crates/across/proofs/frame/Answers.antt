@@ -1,7 +1,6 @@
 -- `across::frame` meets its contract: the front that is lent comes back as the read. Assumes nothing.
 use mathlib.Core.Path.{sym, ap, ◌∙◌}
 use Prim.Native.Nat.{ℕ}
-use borrow.Author.Rules.{rules}
 use lib.ListN.{length, drop, replicate}
 use lib.Seq.{length-take-le, take_at}
 use Rattle.ranges.specs.Ranges.{ranges_of, readable_of}
@@ -26,4 +25,4 @@ returns c =
     let m = c.args.memory.now in
     let read = c.gather.ensures ∙ ap (read_of rs m c.args.addr) (length-take-le size room c.requires.size_value.1) in
     let long = ap length read ∙ length_read m rs c.args.addr size c.requires.ascending c.requires.size_value.0 in
-    take_at c.gather.last.1.1.1.0 (drop size room) size long ∙ read
+    take_at c.gather.new.out (drop size room) size long ∙ read

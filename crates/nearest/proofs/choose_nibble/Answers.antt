@@ -1,7 +1,6 @@
 -- `nearest::choose_nibble` meets its contract: what is worked out in offset binary is what the definition says. Assumes nothing.
 use mathlib.Core.Path.{◌≡◌, ap, ◌∙◌}
 use Prim.Native.Nat.{ℕ, ◌≤◌, ◌<◌, ◌^◌}
-use borrow.Author.Rules.{rules}
 use native.Mathlib.Omega.{arith}
 use lib.IntN.{ℤ, sub_ℕ, ◌*ℤ◌}
 use lib.Signed.{mag}
@@ -50,14 +49,14 @@ module _ (end : After-apart-difference) where
   y = end.nearest_rank-near.result.level
 
   t_is : t ≡ offset_binary x
-  t_is = end.offset_binary-t.ensures.0 ∙ ap offset_binary (to_z-of_z end.before.before.before.before.before.before.fits.x)
+  t_is = end.offset_binary-t.ensures.0 ∙ ap offset_binary (to_z-of_z end.ranges.x)
 
   t_le : t ≤ 65535
   t_le = end.offset_binary-t.ensures.1
 
   predicted_is : predicted ≡ prediction_of c d h0 h1
   predicted_is =
-      let f = end.before.before.before.before.before.before.fits in
+      let f = end.ranges in
       end.prediction-predicted.ensures.0
       ∙ (λ i. prediction_of (to_z-of_z f.c i) (to_z-of_z f.d i) (to_z-of_z f.h0 i) (to_z-of_z f.h1 i))
 
@@ -74,17 +73,17 @@ module _ (end : After-apart-difference) where
   y_le = omega (arith, y_is)
 
   one : mag (c *ℤ h0) < 2 ^ 31
-  one = omega (arith, mul16 end.before.before.before.before.before.before.fits.c end.before.before.before.before.before.before.fits.h0)
+  one = omega (arith, mul16 end.ranges.c end.ranges.h0)
 
   two : mag (d *ℤ h1) < 2 ^ 31
-  two = omega (arith, mul16 end.before.before.before.before.before.before.fits.d end.before.before.before.before.before.before.fits.h1)
+  two = omega (arith, mul16 end.ranges.d end.ranges.h1)
 
   -- the sample of the nearest nibble, by the decoder's step
   abbrev nearest : ℤ
   nearest = step_of (nearest_of x s c d h0 h1) s c d h0 h1
 
   y_nearest : y ≡ offset_binary nearest
-  y_nearest = y_is ∙ sample_is x s c d h0 h1 end.before.before.before.before.before.before.fits.x one two r r_is few
+  y_nearest = y_is ∙ sample_is x s c d h0 h1 end.ranges.x one two r r_is few
 
   sample_nearest : sub_ℕ y 32768 ≡ nearest
   sample_nearest = ap (λ (n : ℕ). sub_ℕ n 32768) y_nearest ∙ offset_back nearest (step_fits _ _ _ _ _ _)
@@ -92,17 +91,17 @@ module _ (end : After-apart-difference) where
   off : end.apart-difference.result ≡ difference_of x nearest
   off = end.apart-difference.ensures
       ∙ (λ i. apart_of (t_is i) (y_is i))
-      ∙ difference_is x s c d h0 h1 end.before.before.before.before.before.before.fits.x one two r r_is few
+      ∙ difference_is x s c d h0 h1 end.ranges.x one two r r_is few
 
   chosen : nibble_at r ≡ nearest_of x s c d h0 h1
-  chosen = nibble_is x s c d h0 h1 end.before.before.before.before.before.before.fits.x one two r r_is few
+  chosen = nibble_is x s c d h0 h1 end.ranges.x one two r r_is few
 
 pub returns : goal.returns
 returns c =
     let lowered = c.from_offset_binary-sample in
     record {
       nibble_is = chosen c;
-      sample_is = back w16 lowered.result lowered.type-inv ∙ lowered.ensures ∙ sample_nearest c;
+      sample_is = back w16 lowered.result lowered.type_inv ∙ lowered.ensures ∙ sample_nearest c;
       difference_is = off c;
       small = omega (arith, c.apart-difference.ensures, y_le c, t_le c);
     }

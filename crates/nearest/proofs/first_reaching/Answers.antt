@@ -1,7 +1,6 @@
 -- `nearest::first_reaching` meets its contract. Assumes nothing.
 use mathlib.Core.Path.{◌≡◌, sym, ap, ◌∙◌}
 use Prim.Native.Nat.{ℕ, ◌+◌, ◌*◌, ◌-◌, ◌/◌, ◌<◌, ◌^◌, min}
-use borrow.Author.Rules.{rules}
 use native.Mathlib.Omega.{arith}
 use Rattle.nearest.specs.Levels.{origin_of, reach_of}
 use Rattle.nearest.proofs.Reach.{reach_none, reach_some}

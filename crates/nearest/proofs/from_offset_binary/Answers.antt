@@ -1,5 +1,4 @@
 -- `nearest::from_offset_binary` meets its contract. Assumes nothing.
-use borrow.Author.Rules.{rules}
 use native.Mathlib.Omega.{arith}
 use lib.IntN.{sub_ℕ}
 use mir.Syntax.{w16, w32}

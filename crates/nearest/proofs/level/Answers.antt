@@ -1,7 +1,6 @@
 -- `nearest::level` meets its contract: the subtraction stops at 0, and the number at 65535. Assumes nothing.
 use mathlib.Core.Path.{◌≡◌, ap, ◌∙◌}
 use Prim.Native.Nat.{ℕ, ◌*◌, ◌≤◌, ◌^◌}
-use borrow.Author.Rules.{rules}
 use native.Mathlib.Nat.{mul-le-mul}
 use native.Mathlib.Omega.{arith}
 use Rattle.nearest.specs.Levels.{level_at}

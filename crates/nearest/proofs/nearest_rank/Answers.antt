@@ -2,11 +2,10 @@
 use mathlib.Core.Path.{◌≡◌, refl, sym, ap, subst, ◌∙◌}
 use mathlib.Core.Bool.{cond}
 use Prim.Native.Nat.{ℕ, ◌+◌, ◌-◌, ◌≤◌, ◌<◌, ◌^◌}
-use borrow.Author.Rules.{rules}
 use native.Mathlib.Nat.{one-le-pow}
 use native.Mathlib.Omega.{arith}
 use lib.Dec.{eqb}
-use Rattle.nearest.specs.Least.{least_of, First}
+use Rattle.nearest.specs.Least.{First}
 use Rattle.nearest.specs.Levels.{level_at, away_at, NearestRank}
 use Rattle.nearest.proofs.Least.{first_least}
 use Rattle.nearest.proofs.Reach.{Reaches, reach_is, under, over, quick_none, quick_under, quick_alike, quick_up}
@@ -79,7 +78,7 @@ module _ (c : After-level-y) where
 -- rank u, and its sample
 module _ (c : After-level-z) where
   abbrev g : After-first_reaching-u
-  g = e c.before.before
+  g = c.before.before.before.before
 
   -- u is below 16, since it is not 16
   more : u g < 16
@@ -119,10 +118,10 @@ overflow_sub-t c = y_le (goal.at.overflow_sub-t c).After-level-y
 
 pub returns-then-z-t : goal.returns-then-z-t
 returns-then-z-t c =
-    least_is _ _ _ _ _ _ refl (nearest_up (goal.at.returns-then-z-t c).After-level-z (rw (← z_is (goal.at.returns-then-z-t c).After-level-z, ← y_is (d (goal.at.returns-then-z-t c).After-level-z)) c.if-z-t.true)) (z_is (goal.at.returns-then-z-t c).After-level-z)
+    least_is _ _ _ _ _ _ refl (nearest_up (goal.at.returns-then-z-t c).After-level-z (rw (← z_is (goal.at.returns-then-z-t c).After-level-z, ← y_is (goal.at.returns-then-z-t c).After-level-y) c.if-z-t.true)) (z_is (goal.at.returns-then-z-t c).After-level-z)
 
 pub returns : goal.returns
 returns c =
-    let f : t (g (goal.at.returns c).After-level-z) - level_of (g (goal.at.returns c).After-level-z) (low (d (goal.at.returns c).After-level-z)) ≤ level_of (g (goal.at.returns c).After-level-z) (u (g (goal.at.returns c).After-level-z)) - t (g (goal.at.returns c).After-level-z) =
-    rw (← z_is (goal.at.returns c).After-level-z, ← y_is (d (goal.at.returns c).After-level-z)) c.if-z-t.false in
-    least_is _ _ _ _ _ _ (c.lowest_alike-2.ensures.0 ∙ same (d (goal.at.returns c).After-level-z)) (least (d (goal.at.returns c).After-level-z) (λ h. f)) (c.lowest_alike-2.ensures.1 ∙ alike (d (goal.at.returns c).After-level-z))
+    let f : t (g (goal.at.returns c).After-level-z) - level_of (g (goal.at.returns c).After-level-z) (low (goal.at.returns c).After-level-y) ≤ level_of (g (goal.at.returns c).After-level-z) (u (g (goal.at.returns c).After-level-z)) - t (g (goal.at.returns c).After-level-z) =
+    rw (← z_is (goal.at.returns c).After-level-z, ← y_is (goal.at.returns c).After-level-y) c.if-z-t.false in
+    least_is _ _ _ _ _ _ (c.lowest_alike-2.ensures.0 ∙ same (goal.at.returns c).After-level-y) (least (goal.at.returns c).After-level-y (λ h. f)) (c.lowest_alike-2.ensures.1 ∙ alike (goal.at.returns c).After-level-y)
