@@ -1,5 +1,4 @@
 -- `sending::by_splitter` meets its contract: the destinations that are lent come back in their place. Assumes nothing.
-use borrow.Author.Rules.{rules}
 use Rattle.rows.specs.Lent.{length_lent}
 use Rattle.sending.specs.Routes.{by_splitter_back}
 use Rattle.sending.proofs.by_splitter.Goals as goal

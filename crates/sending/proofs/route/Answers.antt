@@ -1,6 +1,5 @@
 -- `sending::route` meets its contract: it goes by its mix, or by its splitter. Assumes nothing.
 use native.Mathlib.Omega.{arith}
-use borrow.Author.Rules.{rules}
 use Rattle.sending.specs.Routes.{route_by_splitter, route_to_mix}
 use Rattle.sending.proofs.route.Goals as goal
 

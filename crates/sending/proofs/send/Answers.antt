@@ -1,7 +1,6 @@
 -- `sending::send` meets its contract: it lends the parts of the state that the sends go by. Assumes nothing.
 use mathlib.Core.Path.{sym}
 use native.Mathlib.Omega.{arith}
-use borrow.Author.Rules.{rules}
 use lib.Seq.{length-take-le}
 use Rattle.sending.specs.InState.{rows_small, front_rowed, mixes_whole_lem, lists_whole_lem, routed_is}
 use Rattle.sending.proofs.send.Goals as goal

@@ -1,5 +1,4 @@
 -- `sending::to_mix` meets its contract: the resources that are lent come back in their place. Assumes nothing.
-use borrow.Author.Rules.{rules}
 use Rattle.rows.specs.Lent.{length_lent}
 use Rattle.sending.specs.Routes.{to_mix_back}
 use Rattle.sending.proofs.to_mix.Goals as goal

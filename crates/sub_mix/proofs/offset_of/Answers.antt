@@ -1,8 +1,6 @@
 -- `sub_mix::offset_of` meets its contract: the word of the row. Assumes nothing.
 use mathlib.Core.Path.{refl}
-use Prim.Native.Nat.{◌+◌, ◌*◌}
 use native.Mathlib.Omega.{arith}
-use borrow.Author.Rules.{rules}
 use Rattle.sub_mix.proofs.offset_of.Goals as goal
 
 pub returns : goal.returns

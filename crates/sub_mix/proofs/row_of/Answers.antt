@@ -3,7 +3,6 @@ use mathlib.Core.Path.{◌≡◌}
 use Prim.Native.Nat.{ℕ, ◌%◌, max, ◌≤◌, ◌<◌}
 use native.Mathlib.Nat.{mod-lt}
 use native.Mathlib.Omega.{arith}
-use borrow.Author.Rules.{rules}
 use Rattle.sub_mix.proofs.row_of.Goals as goal
 
 below : (k count b : ℕ) → count ≡ max b 1 → b ≤ 24 → k % count < 25

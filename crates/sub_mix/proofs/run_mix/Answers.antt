@@ -1,8 +1,6 @@
 -- `sub_mix::run_mix` meets its contract: each way out is a case of `runMix`. Assumes nothing.
 use mathlib.Core.Path.{sym, ◌∙◌}
-use Prim.Native.Nat.{◌+◌, ◌*◌}
 use native.Mathlib.Omega.{arith}
-use borrow.Author.Rules.{rules}
 use Rattle.sub_mix.specs.Laws.{mix_splits, mix_no_splitter, mix_goes, mix_nowhere}
 use Rattle.sub_mix.proofs.run_mix.Goals as goal
 

@@ -2,7 +2,6 @@
 use mathlib.Core.Path.{◌∙◌}
 use Prim.Native.Nat.{◌+◌, ◌*◌}
 use native.Mathlib.Omega.{arith}
-use borrow.Author.Rules.{rules}
 use Rattle.rows.specs.Lent.{part_cut, length_lent}
 use Rattle.sub_mix.specs.SubMix.{mix_volume, send_row, send_buffer}
 use Rattle.sub_mix.proofs.send_buffer.Goals as goal

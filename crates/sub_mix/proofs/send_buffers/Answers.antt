@@ -1,13 +1,9 @@
 -- `sub_mix::send_buffers` meets its contract: `Turning` holds at each turn, with room for one row of n samples. Assumes nothing.
-use mathlib.Core.Path.{◌≡◌, refl, sym, ap, ◌∙◌}
-use mathlib.Core.List.{List}
-use Prim.Native.Nat.{◌-◌, ◌≤◌}
+use mathlib.Core.Path.{refl, sym, ap, ◌∙◌}
 use native.Mathlib.Omega.{arith}
 use borrow.Author.Rules.{rules}
 use lib.ListN.{length}
-use lib.Ieee.{Float}
-use Rattle.sub_mix.specs.SubMix.{send_buffer}
-use Rattle.rows.specs.Loops.{Turning, turn_begin, turn_more, turn_end}
+use Rattle.rows.specs.Loops.{turn_begin, turn_more, turn_end}
 use Rattle.sub_mix.proofs.send_buffers.Goals as goal
 
 pub loop-i-init : goal.loop-i-init

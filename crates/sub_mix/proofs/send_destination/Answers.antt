@@ -1,7 +1,6 @@
 -- `sub_mix::send_destination` meets its contract: the buffer is a row, and its volumes a part of the destination's. Assumes nothing.
 use mathlib.Core.Path.{◌∙◌}
 use Prim.Native.Nat.{◌*◌}
-use borrow.Author.Rules.{rules}
 use Rattle.rows.specs.Lent.{part_cut, length_lent}
 use Rattle.sub_mix.specs.SubMix.{mix_volume, send_row}
 use Rattle.sub_mix.proofs.send_destination.Goals as goal

@@ -1,14 +1,10 @@
 -- `sub_mix::send_entries` meets its contract: `Turning` holds at each turn, with room for one row of n samples. Assumes nothing.
-use mathlib.Core.Path.{◌≡◌, refl, sym, ap, ◌∙◌}
-use mathlib.Core.List.{List}
-use Prim.Native.Nat.{◌+◌, ◌*◌, ◌-◌, ◌≤◌}
+use mathlib.Core.Path.{refl, sym, ap, ◌∙◌}
 use native.Mathlib.Omega.{arith}
 use borrow.Author.Rules.{rules}
 use lib.ListN.{length}
-use lib.Ieee.{Float}
-use Rattle.desk_rows.specs.DeskRows.{mix_splitter, list_entry}
-use Rattle.sub_mix.specs.SubMix.{send_entry}
-use Rattle.rows.specs.Loops.{Turning, turn_begin, turn_more, turn_end}
+use Rattle.desk_rows.specs.DeskRows.{mix_splitter}
+use Rattle.rows.specs.Loops.{turn_begin, turn_more, turn_end}
 use Rattle.sub_mix.proofs.send_entries.Goals as goal
 
 pub loop-k-init : goal.loop-k-init

@@ -1,13 +1,11 @@
-use mathlib.Core.Path.{◌≡◌, refl, sym, ap, ◌∙◌}
+use mathlib.Core.Path.{◌≡◌}
 use mathlib.Core.List.{List}
-use Prim.Native.Nat.{◌+◌, ◌*◌, ◌-◌, ◌≤◌}
-use native.Mathlib.Omega.{arith}
-use borrow.Author.Rules.{rules}
+use Prim.Native.Nat.{◌-◌, ◌≤◌}
 use lib.ListN.{length}
 use lib.Ieee.{Float}
-use Rattle.desk_rows.specs.DeskRows.{mix_splitter, list_entry}
+use Rattle.desk_rows.specs.DeskRows.{list_entry}
 use Rattle.sub_mix.specs.SubMix.{send_entry}
-use Rattle.rows.specs.Loops.{Turning, turn_begin, turn_more, turn_end}
+use Rattle.rows.specs.Loops.{Turning}
 use Rattle.sub_mix.proofs.send_entries.Given as goal
 
 abbrev pub invariant-loop-k : goal.invariant-loop-k

@@ -1,8 +1,6 @@
 -- `sub_mix::send_entry` meets its contract: each way out is a case of `sendEntry`. Assumes nothing.
 use mathlib.Core.Path.{sym, ◌∙◌}
 use native.Mathlib.Omega.{arith}
-use borrow.Author.Rules.{rules}
-use borrow.Author.Tests.{not-true, not-false}
 use Rattle.desk_order.specs.Laws.{configured_below}
 use Rattle.sub_mix.specs.Laws.{entry_not_configured, entry_no_mix, entry_sent_lem}
 use Rattle.sub_mix.proofs.send_entry.Goals as goal
