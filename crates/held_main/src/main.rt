@@ -160,7 +160,12 @@ fn print_heard(rt: &impl Print, h: History, out: [f32; 3]) -> io::Result<()> {
 }
 
 // A render of a voice at a pitch, printed; where a turn requires more, nothing.
-fn render(rt: &impl Print, before: VoiceSound, pitch: f32, memory: &[u8]) -> io::Result<VoiceSound> {
+fn render(
+    rt: &impl Print,
+    before: VoiceSound,
+    pitch: f32,
+    memory: &[u8],
+) -> io::Result<VoiceSound> {
     let mut v = before.voice;
     v.pitch = pitch;
     let r = Render {
@@ -209,7 +214,14 @@ fn render(rt: &impl Print, before: VoiceSound, pitch: f32, memory: &[u8]) -> io:
     );
     let voice = t.voice;
     let history = sound.history;
-    print_moved(rt, pitch, t.needed, t.plan.rounds, voice.played, voice.fraction)?;
+    print_moved(
+        rt,
+        pitch,
+        t.needed,
+        t.plan.rounds,
+        voice.played,
+        voice.fraction,
+    )?;
     print_heard(rt, history, out)?;
     Ok(VoiceSound { voice, sound })
 }

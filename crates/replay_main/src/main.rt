@@ -75,7 +75,10 @@ fn adpcm_run(rt: &impl Print, c: &[u8], clip: &[u8], out: &mut [f32]) -> io::Res
     let ctx = AdpcmContext::parse(fields::rest(c, 53));
     fill(out);
     rt.write_all(b"adpcm")?;
-    print_answer(rt, adpcm::decode_adpcm_checked(clip, Sample(start), count, &pairs, ctx, out))?;
+    print_answer(
+        rt,
+        adpcm::decode_adpcm_checked(clip, Sample(start), count, &pairs, ctx, out),
+    )?;
     print_floats(rt, out)?;
     print_end(rt)
 }

@@ -11,12 +11,7 @@ use renderer::LengthsAnswer;
 use std::io;
 
 // Prints the run's lines, and counts them. Question 10 is asked of the whole input before anything else is done with it.
-fn print_run(
-    rt: &impl Print,
-    input: &[u8],
-    printed: &mut u32,
-    out: &mut [u8],
-) -> io::Result<()>
+fn print_run(rt: &impl Print, input: &[u8], printed: &mut u32, out: &mut [u8]) -> io::Result<()>
     requires in_bounds { 65536 ≤ length out.old }
     requires printed_value { printed.old ≡ 0 }
     ensures ok { OnOk result (printed.new ≡ length (lines_of input.now)) }
