@@ -3,14 +3,15 @@
 #![tactic(auto)]
 
 use adpcm::{AdpcmAnswer, AdpcmContext, Sample};
+use std::io;
 
 const HEADER: usize = 38;
 
 const MOST: usize = 4096;
 
-fn main() {
-    let mut input = io::buffer();
-    let n = io::read_full(0, &mut input);
+fn main(rt: HostRuntime) -> io::Result<()> {
+    let mut input = [0u8; 4096];
+    let n = read_input::read_full(&mut rt.stdin(), &mut input)?;
     let clip = &input[..n];
     let pairs = adpcm::coefficients(clip);
     let ctx = AdpcmContext::parse(fields::rest(clip, 32));
@@ -24,10 +25,8 @@ fn main() {
         &mut out,
     );
     match answer {
-        AdpcmAnswer::Done(d) => {
-            sample_lines::print_samples(&out, d.done);
-        }
-        AdpcmAnswer::FarStart => {}
-        AdpcmAnswer::ShortOutput => {}
+        AdpcmAnswer::Done(d) => sample_lines::print_samples(&rt, &out, d.done),
+        AdpcmAnswer::FarStart => Ok(()),
+        AdpcmAnswer::ShortOutput => Ok(()),
     }
 }

@@ -10,6 +10,7 @@ use adpcm::{AdpcmAnswer, AdpcmContext, Sample};
 use dsp_file::DspAnswer;
 use dsp_header::DspHeader;
 use print::{print_context, print_field, print_numbers};
+use std::io;
 
 // The longest file that is taken.
 const MOST: usize = 524288;
@@ -25,63 +26,77 @@ fn least(a: usize, b: usize) -> usize {
 }
 
 // The samples of chunk k, of which n are wanted; the context for the next chunk.
-fn print_chunk(data: &[u8], k: usize, n: usize, pairs: &[i16; 16], x: AdpcmContext) -> AdpcmContext
+fn print_chunk(
+    rt: &impl Print,
+    data: &[u8],
+    k: usize,
+    n: usize,
+    pairs: &[i16; 16],
+    x: AdpcmContext,
+) -> io::Result<AdpcmContext>
     requires { k < 2 ^ 32 }
 {
     let mut out = [0.0f32; CHUNK];
     let frames = fields::rest(data, k * CHUNK_BYTES);
     match adpcm::decode_adpcm_checked(frames, Sample((k * CHUNK) as u64), n, pairs, x, &mut out) {
         AdpcmAnswer::Done(d) => {
-            sample_lines::print_samples(&out, d.done);
-            d.context
+            sample_lines::print_samples(rt, &out, d.done)?;
+            Ok(d.context)
         }
-        AdpcmAnswer::FarStart => x,
-        AdpcmAnswer::ShortOutput => x,
+        AdpcmAnswer::FarStart => Ok(x),
+        AdpcmAnswer::ShortOutput => Ok(x),
     }
 }
 
 // All samples of a clip.
-fn print_clip(data: &[u8], samples: usize, pairs: &[i16; 16], first: AdpcmContext)
+fn print_clip(
+    rt: &impl Print,
+    data: &[u8],
+    samples: usize,
+    pairs: &[i16; 16],
+    first: AdpcmContext,
+) -> io::Result<()>
     requires { samples < 2 ^ 32 }
 {
     let mut x = first;
     let mut k: usize = 0;
     while k < samples / CHUNK + 1 {
         let n = least(samples - k * CHUNK, CHUNK);
-        x = print_chunk(data, k, n, pairs, x);
+        x = print_chunk(rt, data, k, n, pairs, x)?;
         k += 1;
     }
+    Ok(())
 }
 
 // The values of a header, a line each.
-fn print_header(h: DspHeader) {
-    print_field(b"samples", h.samples as u64);
-    print_field(b"nibbles", h.nibbles as u64);
-    print_field(b"rate", h.rate as u64);
-    print_field(b"loop_flag", h.loop_flag as u64);
-    print_field(b"format", h.format as u64);
-    print_field(b"loop_start", h.loop_start as u64);
-    print_field(b"loop_end", h.loop_end as u64);
-    print_field(b"address", h.address as u64);
+fn print_header(rt: &impl Print, h: DspHeader) -> io::Result<()> {
+    print_field(rt, b"samples", h.samples as u64)?;
+    print_field(rt, b"nibbles", h.nibbles as u64)?;
+    print_field(rt, b"rate", h.rate as u64)?;
+    print_field(rt, b"loop_flag", h.loop_flag as u64)?;
+    print_field(rt, b"format", h.format as u64)?;
+    print_field(rt, b"loop_start", h.loop_start as u64)?;
+    print_field(rt, b"loop_end", h.loop_end as u64)?;
+    print_field(rt, b"address", h.address as u64)?;
     let coefficients = h.coefficients;
-    print_numbers(b"coefficients", &coefficients);
-    print_field(b"gain", h.gain as u64);
+    print_numbers(rt, b"coefficients", &coefficients)?;
+    print_field(rt, b"gain", h.gain as u64)?;
     let start = h.start_context;
-    print_context(b"start_context", start);
+    print_context(rt, b"start_context", start)?;
     let looped = h.loop_context;
-    print_context(b"loop_context", looped);
+    print_context(rt, b"loop_context", looped)
 }
 
 // A file that is accepted.
-fn print_file(h: DspHeader, data: &[u8]) {
-    print_header(h);
+fn print_file(rt: &impl Print, h: DspHeader, data: &[u8]) -> io::Result<()> {
+    print_header(rt, h)?;
     let held = adpcm::adpcm_size(Sample(h.samples as u64));
-    print_field(b"data", data.len() as u64);
-    print_field(b"holding samples", held.0);
-    print_field(b"beyond", adpcm::Byte(data.len() as u64).past(held));
+    print_field(rt, b"data", data.len() as u64)?;
+    print_field(rt, b"holding samples", held.0)?;
+    print_field(rt, b"beyond", adpcm::Byte(data.len() as u64).past(held))?;
     let pairs = h.coefficients;
     let first = h.start_context;
-    print_clip(data, h.samples as usize, &pairs, first);
+    print_clip(rt, data, h.samples as usize, &pairs, first)
 }
 
 // Room for the longest file, and a byte more.
@@ -92,34 +107,30 @@ fn room() -> [u8; 524289]
 }
 
 // What is written of an input that is so long that it may be cut.
-fn too_long() {
-    print_field(b"too long: the most bytes are", MOST as u64);
+fn too_long(rt: &impl Print) -> io::Result<()> {
+    print_field(rt, b"too long: the most bytes are", MOST as u64)
 }
 
 // A file, whatever its bytes.
-fn print_answer(file: &[u8]) {
+fn print_answer(rt: &impl Print, file: &[u8]) -> io::Result<()> {
     let read = dsp_file::read_dsp(file);
     let answer = read.answer;
     match answer {
         DspAnswer::Read => {
             let header = read.header;
-            print_file(header, dsp_file::dsp_data(file));
+            print_file(rt, header, dsp_file::dsp_data(file))
         }
-        DspAnswer::Header => {
-            print_field(b"refused", 11);
-        }
-        DspAnswer::Short => {
-            print_field(b"refused", 12);
-        }
+        DspAnswer::Header => print_field(rt, b"refused", 11),
+        DspAnswer::Short => print_field(rt, b"refused", 12),
     }
 }
 
-fn main() {
+fn main(rt: HostRuntime) -> io::Result<()> {
     let mut input = room();
-    let n = io::read_full(0, &mut input);
+    let n = read_input::read_full(&mut rt.stdin(), &mut input)?;
     if n <= MOST {
-        print_answer(&input[..n]);
+        print_answer(&rt, &input[..n])
     } else {
-        too_long();
+        too_long(&rt)
     }
 }

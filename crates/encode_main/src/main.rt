@@ -6,6 +6,7 @@
 
 use adpcm::{AdpcmAnswer, AdpcmContext, Sample};
 use encoder::EncodeAnswer;
+use std::io;
 
 const HEADER: usize = 38;
 
@@ -30,86 +31,101 @@ fn take_samples(bytes: &[u8], out: &mut [i16]) {
 }
 
 // A frame's header in words.
-fn print_header(header: u8) {
-    io::write_all(1, b"predictor ");
-    io::print_decimal(1, (header / 16) as u64);
-    io::write_all(1, b" scale ");
-    io::print_decimal(1, (header % 16) as u64);
-    io::write_all(1, b":");
+fn print_header(rt: &impl Print, header: u8) -> io::Result<()> {
+    let predictor = header / 16;
+    let scale = header % 16;
+    print!(rt; "predictor {predictor} scale {scale}:")
 }
 
 // Byte k of a number of them, after the header if it is a frame's first; the end of a line after its last.
-fn print_byte(byte: u8, k: usize, last: bool) {
+fn print_byte(rt: &impl Print, byte: u8, k: usize, last: bool) -> io::Result<()> {
     if k % 8 == 0 {
-        print_header(byte);
+        print_header(rt, byte)?;
     }
-    io::write_all(1, b" ");
-    io::print_hex(1, byte as u64, 2);
+    print!(rt; " {byte:02x}")?;
     if k % 8 == 7 || last {
-        io::write_all(1, b"\n");
+        rt.write_all(b"\n")?;
     }
+    Ok(())
 }
 
 // All frames.
-fn print_frames(bytes: &[u8]) {
+fn print_frames(rt: &impl Print, bytes: &[u8]) -> io::Result<()> {
     let mut k: usize = 0;
     while k < bytes.len() {
         let last = k + 1 == bytes.len();
-        print_byte(bytes[k], k, last);
+        print_byte(rt, bytes[k], k, last)?;
         k += 1;
     }
+    Ok(())
 }
 
 // What the frames decode to, so many samples.
-fn print_decoded(bytes: &[u8], count: usize, pairs: &[i16; 16], ctx: AdpcmContext) {
+fn print_decoded(
+    rt: &impl Print,
+    bytes: &[u8],
+    count: usize,
+    pairs: &[i16; 16],
+    ctx: AdpcmContext,
+) -> io::Result<()> {
     let mut out = [0.0f32; MOST];
     match adpcm::decode_adpcm_checked(bytes, Sample(0), count, pairs, ctx, &mut out) {
-        AdpcmAnswer::Done(d) => {
-            sample_lines::print_samples(&out, d.done);
-        }
+        AdpcmAnswer::Done(d) => sample_lines::print_samples(rt, &out, d.done)?,
         AdpcmAnswer::FarStart => {}
         AdpcmAnswer::ShortOutput => {}
     }
     if count % 14 > 0 {
-        io::write_all(1, b"\n");
+        rt.write_all(b"\n")?;
     }
+    Ok(())
 }
 
 // Samples encoded, and what they decode to.
-fn print_encoded(samples: &[i16], pairs: &[i16; 16], ctx: AdpcmContext) {
+fn print_encoded(
+    rt: &impl Print,
+    samples: &[i16],
+    pairs: &[i16; 16],
+    ctx: AdpcmContext,
+) -> io::Result<()> {
     let mut out = [0u8; MOST_BYTES];
     match encoder::encode_adpcm(samples, pairs, ctx, &mut out) {
         EncodeAnswer::Done(size, left) => {
             let frames = fields::section(&out, 0, size);
-            print_frames(frames);
-            print_decoded(frames, samples.len(), pairs, ctx);
-            io::write_all(1, b"error ");
-            io::print_decimal(1, left.error);
-            io::write_all(1, b"\n");
+            print_frames(rt, frames)?;
+            print_decoded(rt, frames, samples.len(), pairs, ctx)?;
+            let error = left.error;
+            println!(rt; "error {error}")
         }
-        EncodeAnswer::ShortOutput => {}
+        EncodeAnswer::ShortOutput => Ok(()),
     }
 }
 
 // The first n samples.
-fn print_first(samples: &[i16], n: usize, pairs: &[i16; 16], ctx: AdpcmContext) {
+fn print_first(
+    rt: &impl Print,
+    samples: &[i16],
+    n: usize,
+    pairs: &[i16; 16],
+    ctx: AdpcmContext,
+) -> io::Result<()> {
     if n <= samples.len() {
-        print_encoded(&samples[0..n], pairs, ctx);
+        print_encoded(rt, &samples[0..n], pairs, ctx)?;
     }
+    Ok(())
 }
 
 // A recording, whatever its bytes.
-fn print_recording(recording: &[u8]) {
+fn print_recording(rt: &impl Print, recording: &[u8]) -> io::Result<()> {
     let pairs = adpcm::coefficients(recording);
     let ctx = AdpcmContext::parse(fields::rest(recording, 32));
     let bytes = fields::rest(recording, HEADER);
     let mut samples = [0i16; MOST];
     take_samples(bytes, &mut samples);
-    print_first(&samples, bytes.len() / 2, &pairs, ctx);
+    print_first(rt, &samples, bytes.len() / 2, &pairs, ctx)
 }
 
-fn main() {
-    let mut input = io::buffer();
-    let n = io::read_full(0, &mut input);
-    print_recording(&input[..n]);
+fn main(rt: HostRuntime) -> io::Result<()> {
+    let mut input = [0u8; 4096];
+    let n = read_input::read_full(&mut rt.stdin(), &mut input)?;
+    print_recording(&rt, &input[..n])
 }

@@ -5,6 +5,7 @@ ghost use Rattle.std.specs.Prelude.{◌≤◌, length};
 
 use adpcm::AdpcmContext;
 use plan::Source;
+use std::io;
 use voice::{Queue, WaveBuffer};
 
 // A wave buffer of one 16-bit sample, which loops without end.
@@ -58,10 +59,9 @@ fn count(s: &[f32], x: f32) -> usize
     n
 }
 
-fn print(name: &[u8], n: u64) {
-    io::write_all(1, name);
-    io::print_decimal(1, n);
-    io::write_all(1, &[b'\n']);
+fn print(rt: &impl Print, name: &[u8], n: u64) -> io::Result<()> {
+    rt.write_all(name)?;
+    rt.println(n)
 }
 
 fn rounds(q: Queue, s: Source, ranges: &[u64]) -> u64 {
@@ -77,7 +77,7 @@ fn rounds(q: Queue, s: Source, ranges: &[u64]) -> u64 {
     plan::plan_fetch(q, s, ranges, 240).rounds as u64
 }
 
-fn main() {
+fn main(rt: HostRuntime) -> io::Result<()> {
     let memory = [0x34u8, 0x12];
     let s = Source {
         format: 2,
@@ -95,7 +95,7 @@ fn main() {
     let ranges = [0x10000u64, 0, 2];
     let mut row = [1.0f32; 243];
     fetch_once::fetch_row(q, s, &ranges, &memory, ctx, [-1.0f32; 3], 0, &mut row);
-    print(b"samples ", count(&row, 4660.0) as u64);
-    print(b"zeros ", count(&row, 0.0) as u64);
-    print(b"rounds ", rounds(q, s, &ranges));
+    print(&rt, b"samples ", count(&row, 4660.0) as u64)?;
+    print(&rt, b"zeros ", count(&row, 0.0) as u64)?;
+    print(&rt, b"rounds ", rounds(q, s, &ranges))
 }

@@ -1,6 +1,7 @@
 // The flush walk by the table of `voice` (proofs/FlushTable): four slots pending and valid, from slot 1 on, with index 2 and consumed 7.
 #![tactic(auto)]
 
+use std::io;
 use voice::{Queue, WaveBuffer};
 
 // A wave buffer that has yet to be taken in.
@@ -37,44 +38,44 @@ fn queue() -> Queue {
 }
 
 // A name and a number.
-fn print(name: &[u8], n: u64) {
-    io::write_all(1, name);
-    io::print_decimal(1, n);
+fn print(rt: &impl Print, name: &[u8], n: u64) -> io::Result<()> {
+    rt.write_all(name)?;
+    rt.print(n)
 }
 
 // Two digits for a slot: whether it is pending, and whether it is valid.
-fn print_slot(q: Queue, k: usize) {
+fn print_slot(rt: &impl Print, q: Queue, k: usize) -> io::Result<()> {
     if k > 3 {
-        return;
+        return Ok(());
     }
     let b = q.buffers[k];
-    print(b" ", b.pending as u64);
-    print(b"", q.valid[k] as u64);
+    print(rt, b" ", b.pending as u64)?;
+    print(rt, b"", q.valid[k] as u64)
 }
 
 // A flush of so many turns: the count, the turns that it took, and what it leaves.
-fn print_flush(count: u32) {
+fn print_flush(rt: &impl Print, count: u32) -> io::Result<()> {
     let f = voice::flush(queue(), 1, count);
     let q = f.queue;
-    print(b"count ", count as u64);
-    print(b": turns ", f.turns as u64);
-    print(b", index ", q.index as u64);
-    print(b", consumed ", q.consumed as u64);
-    print(b", offset ", q.offset as u64);
-    print(b", played ", q.played);
-    print(b", loops ", q.loops as u64);
-    io::write_all(1, b", slots");
-    print_slot(q, 0);
-    print_slot(q, 1);
-    print_slot(q, 2);
-    print_slot(q, 3);
-    io::write_all(1, &[b'\n']);
+    print(rt, b"count ", count as u64)?;
+    print(rt, b": turns ", f.turns as u64)?;
+    print(rt, b", index ", q.index as u64)?;
+    print(rt, b", consumed ", q.consumed as u64)?;
+    print(rt, b", offset ", q.offset as u64)?;
+    print(rt, b", played ", q.played)?;
+    print(rt, b", loops ", q.loops as u64)?;
+    rt.write_all(b", slots")?;
+    print_slot(rt, q, 0)?;
+    print_slot(rt, q, 1)?;
+    print_slot(rt, q, 2)?;
+    print_slot(rt, q, 3)?;
+    rt.write_all(b"\n")
 }
 
-fn main() {
-    print_flush(0);
-    print_flush(3);
-    print_flush(4);
-    print_flush(5);
-    print_flush(0xffff_ffff);
+fn main(rt: HostRuntime) -> io::Result<()> {
+    print_flush(&rt, 0)?;
+    print_flush(&rt, 3)?;
+    print_flush(&rt, 4)?;
+    print_flush(&rt, 5)?;
+    print_flush(&rt, 0xffff_ffff)
 }

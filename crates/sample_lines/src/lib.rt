@@ -1,34 +1,37 @@
 // Samples in decimal on standard output, a frame of 14 to a line.
 #![tactic(auto)]
 
+use std::io;
+
 // A whole sample as its number.
-fn print_sample(x: f32) {
+fn print_sample(rt: &impl Print, x: f32) -> io::Result<()> {
     if x < 0.0 {
-        io::write_all(1, &[b'-']);
-        io::print_decimal(1, floats::as_usize(-x) as u64);
+        rt.write_all(b"-")?;
+        rt.print(floats::as_usize(-x) as u64)
     } else {
-        io::print_decimal(1, floats::as_usize(x) as u64);
+        rt.print(floats::as_usize(x) as u64)
     }
 }
 
-// The first n of s, or all of it.
-pub fn print_samples(s: &[f32], n: usize) {
+// The first n of s, or all of it. An error is that of a write.
+pub fn print_samples(rt: &impl Print, s: &[f32], n: usize) -> io::Result<()> {
     let mut k = 0;
     while k < s.len() {
         if n <= k {
-            return;
+            return Ok(());
         }
-        print_sample(s[k]);
-        print_gap(k);
+        print_sample(rt, s[k])?;
+        print_gap(rt, k)?;
         k += 1;
     }
+    Ok(())
 }
 
 // What follows sample k: the end of a line after each frame.
-fn print_gap(k: usize) {
+fn print_gap(rt: &impl Print, k: usize) -> io::Result<()> {
     if k % 14 == 13 {
-        io::write_all(1, &[b'\n']);
+        rt.write_all(b"\n")
     } else {
-        io::write_all(1, &[b' ']);
+        rt.write_all(b" ")
     }
 }

@@ -2,9 +2,12 @@
 // One byte more than is accepted is read, so that it is noticed.
 #![tactic(auto)]
 
-fn main() {
+use std::io;
+
+fn main(rt: HostRuntime) -> io::Result<()> {
     let mut input = [0u8; 65537];
-    let n = io::read_full(0, &mut input);
-    let mut out = io::large_buffer();
-    session_run::answer(&input[..n], &mut out);
+    let n = read_input::read_full(&mut rt.stdin(), &mut input)?;
+    let mut out = [0u8; 65536];
+    session_run::answer(&rt, &input[..n], &mut out)?;
+    Ok(())
 }

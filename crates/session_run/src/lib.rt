@@ -4,37 +4,39 @@
 mod room;
 mod turns;
 
-ghost use Rattle.std.specs.Prelude.{◌≡◌, ◌≤◌, length};
+ghost use Rattle.std.specs.Prelude.{◌≡◌, ◌≤◌, ◌<◌, length, OnOk, OnErr, IfOk};
 ghost use Rattle.session_run.specs.Lines.{lines_of};
 
 use renderer::LengthsAnswer;
+use std::io;
 
 // Prints the run's lines, and counts them. Question 10 is asked of the whole input before anything else is done with it.
-fn print_run(input: &[u8], printed: &mut u32, out: &mut [u8])
+fn print_run(rt: &impl Print, input: &[u8], printed: &mut u32, out: &mut [u8]) -> io::Result<()>
     requires in_bounds { 65536 ≤ length out.old }
     requires printed_value { printed.old ≡ 0 }
-    ensures { printed.new ≡ length (lines_of input.now) }
+    ensures ok { OnOk result (printed.new ≡ length (lines_of input.now)) }
+    ensures err { OnErr result (printed.new < length (lines_of input.now)) }
 {
     if !session::accepted(input) {
-        turns::refuse(input, 10, printed, out);
-        return;
+        return turns::refuse(rt, input, 10, printed, out);
     }
     let p = session::parameters(input);
     let lengths = renderer::lengths(p);
     match lengths {
-        LengthsAnswer::Lengths(at) => room::make(input, p, at, printed, out),
-        LengthsAnswer::Samples => turns::refuse(input, 1, printed, out),
-        LengthsAnswer::Counts => turns::refuse(input, 2, printed, out),
+        LengthsAnswer::Lengths(at) => room::make(rt, input, p, at, printed, out),
+        LengthsAnswer::Samples => turns::refuse(rt, input, 1, printed, out),
+        LengthsAnswer::Counts => turns::refuse(rt, input, 2, printed, out),
     }
 }
 
 // Prints the lines of the run that the input asks for, and gives how many they are. The input has the parameters, sample memory and the
-// calls, each section after its 32-bit count; `out` is room for a line.
-pub fn answer(input: &[u8], out: &mut [u8]) -> u32
+// calls, each section after its 32-bit count; `out` is room for a line. An error is that of a write, which ends the run: the lines before
+// its own are printed whole.
+pub fn answer(rt: &impl Print, input: &[u8], out: &mut [u8]) -> io::Result<u32>
     requires { 65536 ≤ length out.old }
-    ensures { result ≡ length (lines_of input.now) }
+    ensures { IfOk result (λ n. n ≡ length (lines_of input.now)) }
 {
     let mut printed = 0;
-    print_run(input, &mut printed, out);
-    printed
+    print_run(rt, input, &mut printed, out)?;
+    Ok(printed)
 }

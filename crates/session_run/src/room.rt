@@ -1,5 +1,5 @@
 // Room for a session: arrays of the largest sizes that question 10 allows, with 8 sinks (question 2), lent as far as the parameters ask.
-ghost use Rattle.std.specs.Prelude.{◌≡◌, ◌≤◌, length, replicate};
+ghost use Rattle.std.specs.Prelude.{◌≡◌, ◌≤◌, ◌<◌, length, replicate, OnOk, OnErr};
 ghost use Rattle.std.specs.Float.{binary32};
 ghost use Rattle.std.specs.Float.Ieee.{of_bits};
 ghost use Rattle.renderer.specs.declared.answers.LengthsAnswer.TheVariants as of-lengths;
@@ -13,6 +13,7 @@ ghost use Rattle.session_run.specs.Room.{Fits};
 
 use params::Params;
 use renderer::Lengths;
+use std::io;
 
 // Room for a state's words.
 fn words() -> [u32; 1390]
@@ -64,12 +65,20 @@ fn reply() -> [u8; 16384]
 }
 
 // Lends each slice at exactly the length that the parameters ask for.
-pub fn make(input: &[u8], p: Params, at: Lengths, printed: &mut u32, out: &mut [u8])
+pub fn make(
+    rt: &impl Print,
+    input: &[u8],
+    p: Params,
+    at: Lengths,
+    printed: &mut u32,
+    out: &mut [u8],
+) -> io::Result<()>
     requires p_value { (p ≡ parameters_of input.now) × (Small p) × (Fits at) }
     requires in_bounds { 65536 ≤ length out.old }
     requires printed_value { printed.old ≡ 0 }
     requires input_value { lines_of input.now ≡ open_lines input.now (room p (lengths_seen (of-lengths.Lengths at))) }
-    ensures { printed.new ≡ length (lines_of input.now) }
+    ensures ok { OnOk result (printed.new ≡ length (lines_of input.now)) }
+    ensures err { OnErr result (printed.new < length (lines_of input.now)) }
 {
     let mut words = words();
     let mut longs = longs();
@@ -86,6 +95,7 @@ pub fn make(input: &[u8], p: Params, at: Lengths, printed: &mut u32, out: &mut [
     let samples = p.sample_count as usize;
     let frame_count = 2 * samples;
     open(
+        rt,
         input,
         p,
         &mut words[..word_count],
@@ -97,11 +107,12 @@ pub fn make(input: &[u8], p: Params, at: Lengths, printed: &mut u32, out: &mut [
         &mut reply,
         printed,
         out,
-    );
+    )
 }
 
 // Opens the renderer and runs the calls.
 fn open(
+    rt: &impl Print,
     input: &[u8],
     p: Params,
     words: &mut [u32],
@@ -113,20 +124,20 @@ fn open(
     reply: &mut [u8],
     printed: &mut u32,
     out: &mut [u8],
-)
+) -> io::Result<()>
     requires p_value { p ≡ parameters_of input.now }
     requires frames_len_bound { (length frames.old ≤ 128) × (length reply.old ≤ 16384) × (65536 ≤ length out.old) }
     requires printed_value { printed.old ≡ 0 }
     requires input_value { lines_of input.now ≡ open_lines input.now
         (held (state_of words.old longs.old floats.old contexts.old history.old) frames.old reply.old) }
-    ensures { printed.new ≡ length (lines_of input.now) }
+    ensures ok { OnOk result (printed.new ≡ length (lines_of input.now)) }
+    ensures err { OnErr result (printed.new < length (lines_of input.now)) }
 {
     let number = renderer::open(p, words, longs, floats, contexts, history).number();
     if number > 0 {
-        crate::turns::refuse(input, number, printed, out);
-        return;
+        return crate::turns::refuse(rt, input, number, printed, out);
     }
     crate::turns::run(
-        input, printed, words, longs, floats, contexts, history, frames, reply, out,
-    );
+        rt, input, printed, words, longs, floats, contexts, history, frames, reply, out,
+    )
 }

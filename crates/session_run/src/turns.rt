@@ -1,10 +1,12 @@
 // The calls of a session, one after the other. Each line is printed when its call has run; a refusal ends the run.
-ghost use Rattle.std.specs.Prelude.{◌≡◌, cond, [], ◌∷◌, ◌+◌, ◌-◌, ◌≤◌, ◌<◌, length, take, drop};
+ghost use Rattle.std.specs.Prelude.{◌≡◌, cond, [], ◌∷◌, ◌+◌, ◌-◌, ◌≤◌, ◌<◌, length, take, drop, OnOk, OnErr, IfOk};
 ghost use Rattle.state.specs.State.{state_of};
 ghost use Rattle.session.specs.Input.{call_count, calls_of, memory_of};
 ghost use Rattle.session.specs.Lines.{refused_line};
 ghost use Rattle.session_calls.specs.Steps.{held};
 ghost use Rattle.session_run.specs.Lines.{first_step, call_lines, lines_of, LineAt, turned, turn_of};
+
+use std::io;
 
 // What a call gives to the run: whether it goes on, and the call's size.
 #[derive(Clone, Copy)]
@@ -14,30 +16,46 @@ struct After {
 }
 
 // Prints the first n bytes of `out`, which are the next line of the run that the input asks for: `printed` counts the lines.
-// Nothing else in the program prints.
-fn print_line(input: &[u8], printed: &mut u32, out: &[u8], n: usize)
+// Nothing else in the program prints, and no other error comes than that of the write, when the line doesn't count.
+fn print_line(
+    rt: &impl Print,
+    input: &[u8],
+    printed: &mut u32,
+    out: &[u8],
+    n: usize,
+) -> io::Result<()>
     requires printed_bound { printed.old < 4294967295 }
     requires n_in_bounds { n ≤ length out.now }
     requires line_at { LineAt (lines_of input.now) printed.old (take n out.now) }
-    ensures { printed.new ≡ printed.old + 1 }
+    ensures ok { OnOk result (printed.new ≡ printed.old + 1) }
+    ensures err { OnErr result (printed.new ≡ printed.old) }
 {
-    io::write_all(1, &out[..n]);
+    rt.write_all(&out[..n])?;
     *printed += 1;
+    Ok(())
 }
 
 // Prints a refusal's line, which is the only one of the run.
-pub fn refuse(input: &[u8], number: u32, printed: &mut u32, out: &mut [u8])
+pub fn refuse(
+    rt: &impl Print,
+    input: &[u8],
+    number: u32,
+    printed: &mut u32,
+    out: &mut [u8],
+) -> io::Result<()>
     requires in_bounds { 65536 ≤ length out.old }
     requires printed_value { printed.old ≡ 0 }
     requires input_value { lines_of input.now ≡ refused_line number ∷ [] }
-    ensures { printed.new ≡ length (lines_of input.now) }
+    ensures ok { OnOk result (printed.new ≡ length (lines_of input.now)) }
+    ensures err { OnErr result (printed.new < length (lines_of input.now)) }
 {
     let n = session::refused_line(number, out);
-    print_line(input, printed, out, n);
+    print_line(rt, input, printed, out, n)
 }
 
 // Runs the call that begins at a place in the calls, and prints its line, which is the next one of the run.
 fn turn(
+    rt: &impl Print,
     input: &[u8],
     at: usize,
     printed: &mut u32,
@@ -49,18 +67,19 @@ fn turn(
     frames: &mut [f32],
     reply: &mut [u8],
     out: &mut [u8],
-) -> After
+) -> io::Result<After>
     requires frames_len_bound { (length frames.old ≤ 128) × (length reply.old ≤ 16384) × (65536 ≤ length out.old) }
     requires printed_bound { printed.old < 4294967295 }
     requires line_at { LineAt (lines_of input.now) printed.old (first_step (drop at (calls_of input.now)) (memory_of input.now)
         (held (state_of words.old longs.old floats.old contexts.old history.old) frames.old reply.old)).line }
-    ensures printed_after { printed.new ≡ printed.old + 1 }
-    ensures reply_after { turned result.going result.size
+    ensures printed_after { OnOk result (printed.new ≡ printed.old + 1) }
+    ensures reply_after { IfOk result (λ after. turned after.going after.size
         (held (state_of words.new longs.new floats.new contexts.new history.new)
         frames.new reply.new)
         ≡ turn_of (drop at (calls_of input.now)) (memory_of input.now)
         (held (state_of words.old longs.old floats.old contexts.old history.old)
-        frames.old reply.old) }
+        frames.old reply.old)) }
+    ensures err { OnErr result (printed.new ≡ printed.old) }
 {
     let d = fields::rest(session::calls(input), at);
     let call = session::first_call(d);
@@ -77,12 +96,12 @@ fn turn(
         reply,
         out,
     );
-    print_line(input, printed, out, line.size);
+    print_line(rt, input, printed, out, line.size)?;
     let size = session::call_size(call);
-    After {
+    Ok(After {
         going: line.number == 0,
         size,
-    }
+    })
 }
 
 // How many calls are left behind one, by whether the run goes on.
@@ -98,6 +117,7 @@ fn left_behind(left: u32, going: bool) -> u32
 
 // Runs the calls until one is refused.
 pub fn run(
+    rt: &impl Print,
     input: &[u8],
     printed: &mut u32,
     words: &mut [u32],
@@ -108,20 +128,22 @@ pub fn run(
     frames: &mut [f32],
     reply: &mut [u8],
     out: &mut [u8],
-)
+) -> io::Result<()>
     requires frames_len_bound { (length frames.old ≤ 128) × (length reply.old ≤ 16384) × (65536 ≤ length out.old) }
     requires printed_value { printed.old ≡ 0 }
     requires input_value { lines_of input.now ≡ call_lines (call_count input.now) (calls_of input.now) (memory_of input.now)
         (held (state_of words.old longs.old floats.old contexts.old history.old) frames.old reply.old) }
-    ensures { printed.new ≡ length (lines_of input.now) }
+    ensures ok { OnOk result (printed.new ≡ length (lines_of input.now)) }
+    ensures err { OnErr result (printed.new < length (lines_of input.now)) }
 {
     let mut at = 0;
     let mut left = session::call_count(input);
     while left > 0 {
         let after = turn(
-            input, at, printed, words, longs, floats, contexts, history, frames, reply, out,
-        );
+            rt, input, at, printed, words, longs, floats, contexts, history, frames, reply, out,
+        )?;
         at += after.size;
         left = left_behind(left, after.going);
     }
+    Ok(())
 }

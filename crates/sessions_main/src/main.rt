@@ -4,29 +4,32 @@
 
 ghost use Rattle.std.specs.Prelude.{◌≤◌, length};
 
-// Runs the session that stands at a place, and gives its length.
-fn run_at(input: &[u8], at: usize, out: &mut [u8]) -> u32
+use std::io;
+
+// Runs the session that stands at a place, and gives its length. An error is that of a write.
+fn run_at(rt: &impl Print, input: &[u8], at: usize, out: &mut [u8]) -> io::Result<u32>
     requires { 65536 ≤ length out.old }
 {
     let d = fields::rest(input, at);
     let n = fields::u32_at(d, 0);
-    session_run::answer(fields::section(d, 4, n as usize), out);
-    n
+    session_run::answer(rt, fields::section(d, 4, n as usize), out)?;
+    Ok(n)
 }
 
-fn run_all(input: &[u8], out: &mut [u8])
+fn run_all(rt: &impl Print, input: &[u8], out: &mut [u8]) -> io::Result<()>
     requires { 65536 ≤ length out.old }
 {
     let mut at = 0;
     while at < input.len() {
-        let n = run_at(input, at, out);
+        let n = run_at(rt, input, at, out)?;
         at += 4 + n as usize;
     }
+    Ok(())
 }
 
-fn main() {
+fn main(rt: HostRuntime) -> io::Result<()> {
     let mut input = [0u8; 196608];
-    let n = io::read_full(0, &mut input);
-    let mut out = io::large_buffer();
-    run_all(&input[..n], &mut out);
+    let n = read_input::read_full(&mut rt.stdin(), &mut input)?;
+    let mut out = [0u8; 65536];
+    run_all(&rt, &input[..n], &mut out)
 }

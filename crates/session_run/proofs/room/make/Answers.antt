@@ -1,0 +1,12 @@
+-- `session_run::room::make` lends parts that are inside its arrays, as the definition has them. Assumes nothing.
+use Rattle.std.proofs.Common.{ap, sym, ◌∙◌}
+use Rattle.session_run.specs.Lines.{open_lines}
+use Rattle.session_run.proofs.Fitting.{room_lent}
+use Rattle.session_run.proofs.room.make.Goals as goal
+
+pub open-requires-clause-input_value : goal.open-requires-clause-input_value
+open-requires-clause-input_value g c =
+    let state = room_lent _ _ c.requires.p_value.1 c.requires.p_value.2 c.words-words.ensures.1 c.longs-longs.ensures.1 in
+    let lent = state c.floats-floats.ensures.1 c.contexts-contexts.ensures.1 c.history-history.ensures.1
+    c.frames-frames.ensures.1 c.reply-reply.ensures.1
+    in c.requires.input_value ∙ ap (open_lines c.args.input.now) (sym lent)
