@@ -1,4 +1,4 @@
--- `sub_mix::run_mix` meets its contract: each way out is a case of `runMix`. Assumes nothing.
+-- `sub_mix::run_mix` meets its contract: each way out is a case of `run_mix`. Assumes nothing.
 use mathlib.Core.Path.{sym, ◌∙◌}
 use Prim.Native.Nat.{◌+◌, ◌*◌}
 use native.Mathlib.Omega.{arith}
