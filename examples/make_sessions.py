@@ -1,6 +1,6 @@
 #!/usr/bin/env python3
 """make_sessions.py: writes the example sessions examples/*.session, each with what the session program prints for it (*.txt), and says what
-they show. Run it at the top of the repository after `rt check session_main`; a session is run by hand as
+they show. Run it at the top of the repository after `tools/build session_main`; a session is run by hand as
 
     target/bin/session_main < examples/tone.session
 

@@ -1,6 +1,6 @@
 /* Opens a renderer with 2 samples, renders, updates, and prints what the session program prints for the same calls. C99 and C++98.
  *
- *     rt staticlib cabi && cc -std=c99 -Iinclude -o target/example include/example.c target/staticlib/libcabi.a && target/example */
+ *     tools/build cabi && cc -std=c99 -Iinclude -o target/example include/example.c target/staticlib/libcabi.a && target/example */
 #include <stdio.h>
 #include <stdlib.h>
 #include <string.h>

@@ -1,4 +1,4 @@
-/* Jeqlluna: an audio renderer, proved. The library is built for x86-64 Linux by `rt staticlib cabi` (target/staticlib/libcabi.a).
+/* Jeqlluna: an audio renderer, proved. The library is built for x86-64 Linux by `tools/build cabi` (target/staticlib/libcabi.a).
  *
  * A slice is a pointer and a count of elements. The caller owns all memory; a call keeps no pointer after it returns and allocates
  * nothing. The caller sees to it that a pointer is aligned, that so many elements lie there, and that a slice which is written overlaps

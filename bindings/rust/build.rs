@@ -1,4 +1,4 @@
-//! Links the proved library. JEQLLUNA_LIB names the archive; where it is not set, the one that `rt staticlib cabi` writes in this
+//! Links the proved library. JEQLLUNA_LIB names the archive; where it is not set, the one that `tools/build cabi` writes in this
 //! repository is taken.
 //!
 //! Where there is none this only warns, since documentation and checks need none; what links is then refused by the compiler.
@@ -22,7 +22,7 @@ fn main() {
     };
     if !archive.is_file() {
         println!(
-            "cargo::warning=no library at {}, so nothing can be linked: run `rt staticlib cabi` in the repository, or set JEQLLUNA_LIB",
+            "cargo::warning=no library at {}, so nothing can be linked: run `tools/build cabi` in the repository, or set JEQLLUNA_LIB",
             archive.display()
         );
     }

@@ -20,7 +20,7 @@ clamp_z z = cond (lt_z z (negsuc 32767)) (negsuc 32767) (cond (lt_z (pos 32767) 
 unfoldable pub step_of : ℕ → ℕ → ℤ → ℤ → ℤ → ℤ → ℤ
 step_of v s c d h0 h1 = clamp_z (floor_div (signed4 v *ℤ pos (2 ^ (11 + s)) +ℤ c *ℤ h0 +ℤ d *ℤ h1 +ℤ pos 1024) 2048)
 
--- ---- `floorDiv z 2048` is the floor: 2048 times it is at most z, and 2048 times its successor is above z
+-- ---- `floor_div z 2048` is the floor: 2048 times it is at most z, and 2048 times its successor is above z
 
 neg_is : (n : ℕ) → zero < n → neg_ℤ (pos n) ≡ negsuc (n - 1)
 neg_is zero h = absurd (omega arith)

@@ -1,4 +1,4 @@
--- What `floats::floor` computes is `floorOf`, case by case of its tests. Assumes nothing.
+-- What `floats::floor` computes is `floor_of`, case by case of its tests. Assumes nothing.
 use Rattle.std.proofs.Common.{◌≡◌, ℕ, zero, suc, ◌+◌, ◌*◌, ◌/◌, ◌%◌, ◌^◌, ◌<◌, ◌≤◌, Bool, true, false, cond, ◌&&◌, ◌||◌, T, eqb, ltb, ℤ, pos, negsuc, sym, refl, ap, ◌∙◌, subst, add-zero, le_of_lt, div-lt_iff_lt-mul, div-add-mod', mul-one, mul_right_comm, arith, eqb→eq, ltb→lt, pow_pos, ltb-false, ltb-true, lt-ltb, eq-eqb, ne_eqb}
 use native.Mathlib.Nat.{mul-mod_left, mod-one, zero-mod, eq_of_mul-eq-mul_right}
 use lib.Ieee.{Float, nan, inf, fin, binary32, up, down, lt, le, eq, neg, level, round, of_int, to_unsigned, fits}

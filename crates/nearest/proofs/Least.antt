@@ -1,4 +1,4 @@
--- The first place at which a function is least: there is one, and `leastOf` finds it. Assumes nothing.
+-- The first place at which a function is least: there is one, and `least_of` finds it. Assumes nothing.
 use Prim.Native.Nat.{ℕ, zero, suc, ◌≤◌, ◌<◌}
 use mathlib.Core.Path.{◌≡◌, refl}
 use mathlib.Core.Bool.{Bool, true, false, cond}
@@ -46,7 +46,7 @@ module _ (f : ℕ → ℕ) where
   unfolding better
   first_more n best p = by_case n best p (ltb (f (suc n)) (f best)) refl
 
-  -- `leastOf` is such a place
+  -- `least_of` is such a place
   pub least_first : (n : ℕ) → First f n (least_of f n)
   unfolding least_of
   least_first zero = first_none
@@ -61,7 +61,7 @@ module _ (f : ℕ → ℕ) where
       same false true e g = absurd (omega (arith, p.first b (ltb-true b a g), q.least a p.within))
       same false false e g = omega (arith, ltb-false a b e, ltb-false b a g)
 
-  -- the place of `leastOf`
+  -- the place of `least_of`
   pub first_least : (n best : ℕ) → First f n best → best ≡ least_of f n
   first_least n best p = first_once n best (least_of f n) p (least_first n)
 

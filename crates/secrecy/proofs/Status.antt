@@ -1,4 +1,4 @@
--- A reply has each voice's status where `statusIn` reads it. Assumes nothing.
+-- A reply has each voice's status where `status_in` reads it. Assumes nothing.
 use mathlib.Core.Path.{◌≡◌, refl, ◌∙◌}
 use mathlib.Core.List.{List, ◌++◌}
 use Prim.Native.Nat.{ℕ, ◌+◌, ◌*◌, ◌<◌}

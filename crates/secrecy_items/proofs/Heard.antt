@@ -22,7 +22,7 @@ fast_voice =
     byte 0x08 1 ∷ byte 0x09 1 ∷ byte 0x0b 2 ∷ word 0x0c 96000 ∷ word 0x18 1 ∷ word 0x1c one_bits ∷ word 0x20 one_bits ∷ word 0x3c 1
     ∷ word 0x5c no_splitter ∷ wave 0 base 16 8 0
 
--- the second render reads the fifth sample, as `reads-apart` has it
+-- the second render reads the fifth sample, as `reads_apart` has it
 abbrev pub samples : ℕ → List ℕ
 samples fifth = pcm (1 ∷ 3 ∷ 5 ∷ 7 ∷ fifth ∷ 11 ∷ 13 ∷ 15 ∷ [])
 

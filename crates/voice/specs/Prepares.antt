@@ -1,4 +1,4 @@
--- What `prepare` puts together, by the play mark, is what `prepareOf` says. Assumes nothing.
+-- What `prepare` puts together, by the play mark, is what `prepare_of` says. Assumes nothing.
 use Rattle.std.specs.Prelude.{◌≡◌, Bool, true, false, pos}
 use Rattle.std.proofs.Common.{sym, ◌∙◌}
 use Rattle.std.specs.Float.{fin}

@@ -75,7 +75,7 @@ whole_of st = leb 10 (length st.words) && whole_by (params_in st) st
 
 -- ---- as facts
 
--- the rows of a kind are those that the kind's crate works on: `voiceWordsIn` and so on
+-- the rows of a kind are those that the kind's crate works on: `voice_words_in` and so on
 pub record Whole (st : State) : Type 0 where
   pub front : 10 ≤ length st.words
   pub allowed : Allowed (params_in st)

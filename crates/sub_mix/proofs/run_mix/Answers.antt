@@ -1,4 +1,4 @@
--- `sub_mix::run_mix` meets its contract: each way out is a case of `runMix`. Assumes nothing.
+-- `sub_mix::run_mix` meets its contract: each way out is a case of `run_mix`. Assumes nothing.
 use mathlib.Core.Path.{sym, ◌∙◌}
 use native.Mathlib.Omega.{arith}
 use Rattle.sub_mix.specs.Laws.{mix_splits, mix_no_splitter, mix_goes, mix_nowhere}

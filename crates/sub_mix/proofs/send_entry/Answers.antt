@@ -1,4 +1,4 @@
--- `sub_mix::send_entry` meets its contract: each way out is a case of `sendEntry`. Assumes nothing.
+-- `sub_mix::send_entry` meets its contract: each way out is a case of `send_entry`. Assumes nothing.
 use mathlib.Core.Path.{sym, ◌∙◌}
 use native.Mathlib.Omega.{arith}
 use Rattle.desk_order.specs.Laws.{configured_below}

@@ -1,4 +1,4 @@
--- `voice::end_buffer` meets its contract: what the calls and the branch give are the parts of `endBuffer`. Assumes nothing.
+-- `voice::end_buffer` meets its contract: what the calls and the branch give are the parts of `end_buffer`. Assumes nothing.
 use Rattle.std.proofs.Common.{◌∙◌, rules}
 use Rattle.voice.specs.Queue.{queue_at}
 use Rattle.voice.specs.Laws.{end_made}

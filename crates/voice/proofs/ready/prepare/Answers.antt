@@ -1,4 +1,4 @@
--- `voice::prepare` meets its contract: what the calls give, by the play mark, are the parts of `prepareOf`. Assumes nothing.
+-- `voice::prepare` meets its contract: what the calls give, by the play mark, are the parts of `prepare_of`. Assumes nothing.
 use Rattle.std.proofs.Common.{◌≡◌, ◌<◌, sym, subst, rules}
 use Rattle.voice.specs.declared.queue.Queue.{Queue}
 use Rattle.voice.specs.Prepares.{flushed_queue, flush_queue, prepared_started, prepared_stopping, prepared_stopped, prepared_paused}
