@@ -1,0 +1,17 @@
+-- `sound::coefficients` meets its contract, by whether they can be read. Assumes nothing.
+use mathlib.Core.Bool.{Bool}
+use mathlib.Core.Path.{sym, ap, ◌∙◌}
+use borrow.Author.Rules.{rules}
+use Rattle.plan.specs.Source.{over}
+use Rattle.sound.specs.Sound.{table_of}
+use Rattle.sound.proofs.coefficients.Goals as goal
+
+pub returns-then-table : goal.returns-then-table
+unfolding table_of
+returns-then-table c =
+    c.coefficients.ensures ∙ sym (ap (λ (b : Bool). table_of b (over c.args.s c.args.ranges.now) c.args.memory.now) c.if-table.true)
+
+pub returns : goal.returns
+unfolding table_of
+returns c =
+    sym (ap (λ (b : Bool). table_of b (over c.args.s c.args.ranges.now) c.args.memory.now) c.if-table.false)

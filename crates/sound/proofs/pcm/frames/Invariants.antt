@@ -1,0 +1,14 @@
+use Prim.Native.Nat.{ℕ, ◌+◌, ◌*◌, ◌-◌}
+use mathlib.Core.Path.{◌∙◌}
+use native.Mathlib.Omega.{arith}
+use borrow.Author.Rules.{rules}
+use Rattle.sound.specs.Fill.{Filled, filled_none, filled_length, filled_more, filled_all}
+use Rattle.sound.specs.Perform.{wide_le}
+use Rattle.sound.specs.Sound.{pcm_at, pcm_of}
+use Rattle.sound.proofs.pcm.frames.Given as goal
+
+abbrev pub invariant-loop-j : goal.invariant-loop-j
+invariant-loop-j l = Filled (λ (i : ℕ). pcm_at l.width l.d ((i * l.channels + l.c) * l.width)) l.n l.initial.out l.out l.j
+
+abbrev pub decreases-loop-j : goal.decreases-loop-j
+decreases-loop-j l = l.n - l.j
