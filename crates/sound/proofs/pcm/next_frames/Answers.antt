@@ -40,21 +40,15 @@ whole_le n room size e =
     let some = subst (λ (x : ℕ). x ≤ q) (sym e) (min-le_right n q) in
     (few, omega (arith, mul-le-mul_right size some, div-mul-le_self room size))
 
--- where the function begins, of the place where the whole frames are counted
-abbrev start : After-whole_frames-whole → Start
-start c = c.before.before.before.before.before
-
 whole : (c : After-whole_frames-whole)
-    → (c.whole_frames-whole.result ≤ (start c).args.n) × (c.whole_frames-whole.result * frame (start c) ≤ c.stretch_at-s.result.room)
-whole c = whole_le (start c).args.n c.stretch_at-s.result.room (frame (start c)) c.whole_frames-whole.ensures
+    → (c.whole_frames-whole.result ≤ c.args.n) × (c.whole_frames-whole.result * (c.args.width * c.args.channels) ≤ c.stretch_at-s.result.room)
+whole c = whole_le c.args.n c.stretch_at-s.result.room ((c.args.width * c.args.channels)) c.whole_frames-whole.ensures
 
 -- their bytes are a part of the slice
 lying : (c : After-whole_frames-whole)
-    → (let a = (start c).args in
-    Lies (ranges_of a.ranges.now) a.memory.now a.addr (c.whole_frames-whole.result * frame (start c)) c.stretch_at-s.result)
+    → (Lies (ranges_of c.args.ranges.now) c.args.memory.now c.args.addr (c.whole_frames-whole.result * (c.args.width * c.args.channels)) c.stretch_at-s.result)
 lying c =
-    let p = start c in
-    lies p.args.memory.now (omega arith) p.pre.1.1.0 p.args.addr (c.whole_frames-whole.result * frame p)
+    lies c.args.memory.now (omega arith) c.requires.ascending c.args.addr (c.whole_frames-whole.result * (c.args.width * c.args.channels))
     c.stretch_at-s.ensures (whole c).1
 
 pub overflow_mul-frame : goal.overflow_mul-frame
@@ -86,11 +80,9 @@ pub slice_bounds-frames-end : goal.slice_bounds-frames-end
 slice_bounds-frames-end c = omega (arith, (lying (goal.at.slice_bounds-frames-end c).After-whole_frames-whole).inside)
 
 pub frames-requires : goal.frames-requires
-frames-requires c =
-    let p = (start (goal.at.frames-requires c).After-whole_frames-whole).pre in record { width_value = p.0; channels_bound = (p.1.0.0, omega (arith, p.1.0), omega (arith, p.1.0, (whole (goal.at.frames-requires c).After-whole_frames-whole).0), omega (arith, p.1.0, (whole (goal.at.frames-requires c).After-whole_frames-whole).0)) }
+frames-requires c = record { width_value = c.requires.width_value; channels_bound = (c.requires.channels_bound.0, omega (arith, c.requires.channels_bound), omega (arith, c.requires.channels_bound, (whole (goal.at.frames-requires c).After-whole_frames-whole).0), omega (arith, c.requires.channels_bound, (whole (goal.at.frames-requires c).After-whole_frames-whole).0)) }
 
 pub returns : goal.returns
 returns c =
-    let a = (start (goal.at.returns c).After-whole_frames-whole).args in
     let n = c.whole_frames-whole.result in record { result_nonzero = (omega arith, (whole (goal.at.returns c).After-whole_frames-whole).0); out_after = c.frames.ensures
-          ∙ (λ i. pcm_of a.width a.channels a.c ((lying (goal.at.returns c).After-whole_frames-whole).bytes refl i) n ++ drop n a.out.now) }
+          ∙ (λ i. pcm_of c.args.width c.args.channels c.args.c ((lying (goal.at.returns c).After-whole_frames-whole).bytes refl i) n ++ drop n c.args.out.now) }

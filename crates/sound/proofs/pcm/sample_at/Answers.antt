@@ -11,4 +11,4 @@ returns-then-width-eq2 c =
 
 pub returns : goal.returns
 returns c =
-    c.Float-at.ensures ∙ (λ i. pcm_at (sym (four_wide c.requires c.if-width-eq2.false) i) c.args.d.now c.args.o)
+    c.float_at.ensures ∙ (λ i. pcm_at (sym (four_wide c.requires c.if-width-eq2.false) i) c.args.d.now c.args.o)
