@@ -1,5 +1,5 @@
 -- The end of a render, on the rows of the state: the sub_mixes, and the frames of the sink. Definitions only.
-use Rattle.std.specs.Prelude.{◌≡◌, List, ℕ, ◌*◌, ◌≤◌, Float, length}
+use Rattle.std.specs.Prelude.{◌≡◌, List, ℕ, Float, length}
 use Rattle.params.specs.declared.params.Params.{Params}
 use Rattle.params.specs.Sizes.{Allowed}
 use Rattle.state.specs.State.{mixes_of, words_of, floats_of, mix_words_in, mix_floats_in, sink_words_in, sink_floats_in, list_words_in, destination_floats_in}

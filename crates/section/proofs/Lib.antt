@@ -1,5 +1,1 @@
-pub mod Again
-pub mod Steps
-pub mod Turns
-pub mod Held
-pub mod Words
+pub mod Here

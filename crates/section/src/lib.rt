@@ -183,7 +183,7 @@ pub fn records<'a>(
     splitters::rounded_up(e.at)
 }
 
-// The section behind its header, by one reader. Its contract says nothing of a reader, so whoever calls it needs no proof by hand.
+// The section behind its header, by one reader. Its contract says nothing of a reader.
 fn read_section(d: &[u8], ns: usize, nd: usize, words: &mut [u32], floats: &mut [f32]) -> usize
     requires { Sized ns nd words.old floats.old }
     ensures { (left result words.new floats.new
