@@ -70,11 +70,11 @@ zeros_whole s x n l e = e ∙ put_all s (replicate (length s) x) (length-replica
 
 -- the longs and the floats of a default voice are zeros
 voice_longs_zero : (n : ℕ) → voice_longs n ≡ replicate (n * 14) 0
-unfolding row.longsOf row.topOf longs_of_wave default_voice
+unfolding row.longs_of row.top_of longs_of_wave default_voice
 voice_longs_zero n = joined_same 14 n 0
 
 voice_floats_zero : (n : ℕ) → voice_floats n ≡ replicate (n * 4) zero32
-unfolding row.floatsOf default_voice
+unfolding row.floats_of default_voice
 voice_floats_zero n = joined_same 4 n zero32
 
 module _ (p : Params) where

@@ -11,7 +11,7 @@ use Rattle.state.specs.State.{State}
 use Rattle.calls.specs.Calls.{LengthsOutcome, lengths_call, OpenOutcome, open_call}
 use Rattle.renderer.specs.declared.answers.Lengths.{Lengths}
 use Rattle.renderer.specs.declared.answers.LengthsAnswer.{LengthsAnswer}
-use Rattle.renderer.specs.declared.answers.LengthsAnswer.TheVariants as of-lengths
+use Rattle.renderer.specs.declared.answers.LengthsAnswer.TheVariants as of_lengths
 use Rattle.renderer.specs.declared.answers.OpenAnswer.{OpenAnswer}
 use Rattle.renderer.specs.Answers.{lengths_seen, open_number, open_seen}
 use Rattle.session.specs.Input.{parameters_of, memory_of, call_count, calls_of}
@@ -44,7 +44,7 @@ module _ (d : List ℕ) {r : Bool} (er : r ≡ accepted_of d) where
 
     -- ---- the length call, by its answer
 
-    pub lengths_given_lem : {at : Lengths} → a ≡ of-lengths.Lengths at → lines_of d ≡ open_lines d (room p (lengths_seen (of-lengths.Lengths at)))
+    pub lengths_given_lem : {at : Lengths} → a ≡ of_lengths.Lengths at → lines_of d ≡ open_lines d (room p (lengths_seen (of_lengths.Lengths at)))
     lengths_given_lem e = asked ∙ ap (λ (b : LengthsAnswer). or_refused (lengths_seen b).number (open_lines d (room p (lengths_seen b)))) e
 
     pub lengths_refused_lem : (n : ℕ) {b : LengthsAnswer} → a ≡ b → (lengths_seen b).number ≡ suc n → lines_of d ≡ refused_line (suc n) ∷ []

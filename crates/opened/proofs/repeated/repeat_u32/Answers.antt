@@ -1,0 +1,27 @@
+-- `repeat_u32` meets its contract: a row is put at each turn. Assumes nothing.
+use mathlib.Core.Path.{refl}
+use Prim.Native.Nat.{◌-◌}
+use native.Mathlib.Omega.{arith}
+use borrow.Author.Rules.{rules}
+use lib.ListN.{length}
+use Rattle.rows.specs.Tables.{Joining, join_begin, join_room, join_step, join_end}
+use Rattle.opened.proofs.repeated.repeat_u32.Goals as goal
+
+pub loop-k-init : goal.loop-k-init
+loop-k-init c = join_begin _ _ _ _ _ (omega arith)
+
+pub overflow_mul-k : goal.overflow_mul-k
+overflow_mul-k c = omega (arith, join_room c.loop-k.invariant (λ _. refl) (omega arith) (omega arith))
+
+pub overflow_add-at : goal.overflow_add-at
+overflow_add-at c = omega (arith, join_room c.loop-k.invariant (λ _. refl) (omega arith) (omega arith))
+
+pub copy_in_u32-requires : goal.copy_in_u32-requires
+copy_in_u32-requires c = join_room c.loop-k.invariant (λ _. refl) (omega arith) (omega arith)
+
+pub loop-k-preserved : goal.loop-k-preserved
+loop-k-preserved c =
+    join_step c.loop-k.invariant (λ _. refl) (omega arith) (omega arith) c.copy_in_u32.ensures
+
+pub returns : goal.returns
+returns c = join_end c.loop-k.invariant (λ _. refl) (omega arith)

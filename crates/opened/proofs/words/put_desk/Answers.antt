@@ -1,0 +1,9 @@
+-- `put_desk` meets its contract: each kind stands right behind the one before. Assumes nothing.
+use Rattle.opened.specs.Written.{desk_words_written}
+use borrow.Author.Rules.{rules}
+use Rattle.opened.proofs.words.put_desk.Goals as goal
+
+pub returns : goal.returns
+returns c =
+    desk_words_written _ _ _ _ _ _ c.requires
+    c.put_mixes.ensures c.zeros_u32.ensures c.zeros_u32-2.ensures c.put_destinations.ensures

@@ -1,0 +1,17 @@
+use Prim.Native.Nat.{ℕ, ◌-◌}
+use native.Mathlib.Omega.{arith}
+use mathlib.Core.Path.{ap, ◌∙◌}
+use lib.ListN.{length}
+use Rattle.plan.specs.Source.{over}
+use Rattle.sound.specs.Sound.{table_of}
+use Rattle.playing.specs.Playing.{material}
+use Rattle.playing.specs.Channels.{ready_same, Sounding, sounding_none, sounding_room, sounding_more, sounding_heard, sounding_kept}
+use borrow.Author.Rules.{rules}
+use Rattle.playing.proofs.play_channels.Given as goal
+
+abbrev pub invariant-loop-c : goal.invariant-loop-c
+invariant-loop-c l =
+    Sounding (material l.q (over l.s l.ranges) l.memory (length l.initial.src - 3) l.sound l.ratio l.fraction l.n) l.initial.src l.initial.out l.src l.out l.kept l.c
+
+abbrev pub decreases-loop-c : goal.decreases-loop-c
+decreases-loop-c l = l.s.channels - l.c
