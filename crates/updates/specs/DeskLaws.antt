@@ -1,13 +1,13 @@
 -- The desk's updates at their places, and what each leaves for the next. Assumes nothing.
 use Rattle.std.specs.Prelude.{◌≡◌, List, ℕ, ◌+◌, ◌*◌, ◌≤◌, Float}
-use Rattle.std.proofs.Common.{ap, sym, ◌∙◌, arith}
+use Rattle.std.proofs.Common.{ap, ◌∙◌, arith}
 use Rattle.std.proofs.Math.ListN.{length}
 use Rattle.rows.specs.Rows.{part, put, length_put, part_put_same, part_put_before}
 use Rattle.fields.specs.Fields.{section_of, rest_of}
 use Rattle.params.specs.declared.params.Params.{Params}
 use Rattle.params.specs.declared.sections.Sections.{Sections}
 use Rattle.params.specs.Sizes.{revision_of}
-use Rattle.state.specs.State.{mixes_of, words_of, floats_of, mix_words, sink_words, list_words, mix_floats, sink_floats, destination_floats, mix_words_in, mix_floats_in}
+use Rattle.state.specs.State.{mixes_of, mix_words, sink_words, list_words, mix_floats, sink_floats, destination_floats, mix_words_in, mix_floats_in}
 use Rattle.desk_mixes.specs.Mixes.{MixesSized}
 use Rattle.desk_updates.specs.DeskUpdate.{mix_rows_at, sink_rows_at, list_rows_at}
 use Rattle.desk_updates.specs.Laws.{lists_long, mixes_long}

@@ -1,8 +1,8 @@
 -- A whole state can be updated. Assumes nothing.
-use Rattle.std.specs.Prelude.{◌+◌, ◌*◌}
+use Rattle.std.specs.Prelude.{◌*◌}
 use Rattle.std.proofs.Common.{arith}
 use Rattle.rows.specs.Rows.{length_part}
-use Rattle.state.specs.State.{State, params_in, mixes_of, mix_words, mix_floats}
+use Rattle.state.specs.State.{State, params_in, mixes_of, mix_floats}
 use Rattle.whole.specs.Whole.{Whole}
 use Rattle.updates.specs.Update.{Updatable}
 

@@ -1,17 +1,17 @@
 -- The whole update: the resources and voices first, and then a desk that can be updated. Assumes nothing.
 use Rattle.std.specs.Prelude.{◌≡◌, List, ℕ, ◌+◌, ◌*◌, ◌≤◌, Float}
-use Rattle.std.proofs.Common.{ap, sym, ◌∙◌, subst, arith}
+use Rattle.std.proofs.Common.{ap, ◌∙◌, arith}
 use Rattle.std.proofs.Math.ListN.{length}
-use Rattle.rows.specs.Rows.{part, put, length_put, length_part, part_put_after}
+use Rattle.rows.specs.Rows.{put, length_put, part_put_after}
 use Rattle.fields.specs.Fields.{section_of}
 use Rattle.params.specs.declared.params.Params.{Params}
 use Rattle.params.specs.declared.sections.Sections.{Sections}
 use Rattle.params.specs.Sections.{sections_of}
 use Rattle.params.specs.Sizes.{revision_of}
-use Rattle.state.specs.State.{State, state_of, Sized, mixes_of, mix_words, resource_floats, mix_floats, mix_words_in, mix_floats_in}
+use Rattle.state.specs.State.{State, state_of, mixes_of, mix_words, resource_floats, mix_floats, mix_words_in, mix_floats_in}
 use Rattle.desk_updates.specs.DeskUpdate.{resources_at}
 use Rattle.desk_updates.specs.Laws.{length_resources}
-use Rattle.updates.specs.Update.{Desk, VoicesInside, DeskUpdatable, Updatable, desk_of, with_desk, with_resources}
+use Rattle.updates.specs.Update.{Desk, VoicesInside, Updatable, desk_of, with_desk, with_resources}
 use Rattle.updates.specs.Update.{voice_rows_in, put_voices, with_voices, after_voices, after_desk, changed}
 use Rattle.updates.specs.VoiceRows.{voices_long}
 
