@@ -22,6 +22,5 @@ write_sink-requires c = record { fact_1 = c.requires.fact_1; fact_2 = silent c.a
 
 pub returns : goal.returns
 returns c =
-    let a = (started (goal.at.returns c).After-render_mixes).args in
-    let rest = drop (2 * a.p.sample_count) a.frames.now in
-    c.write_sink.ensures ∙ (λ i. frames_by a.p a.words.now a.floats.now (c.render_mixes.ensures i) ++ rest)
+    let rest = drop (2 * c.args.p.sample_count) c.args.frames.now in
+    c.write_sink.ensures ∙ (λ i. frames_by c.args.p c.args.words.now c.args.floats.now (c.render_mixes.ensures i) ++ rest)

@@ -3,4 +3,4 @@ use Rattle.std.proofs.Common.{rules}
 use Rattle.render.proofs.render.Goals as goal
 
 pub render_from-requires : goal.render_from-requires
-render_from-requires c = c.requires
+render_from-requires c = (c.requires.fact_1, c.requires.fact_2)

@@ -12,30 +12,21 @@ use Rattle.render.specs.Laws.{counted_playing, after_mixable, render_done_lem}
 use Rattle.render.specs.Rooms.{floats_for}
 use Rattle.render.proofs.Fitting.{room_kept, floats_upto, blank_rendered}
 use Rattle.render.proofs.render_lent.Goals as goal
-use Rattle.render.proofs.render_lent.Goals.{After-buffers-1, After-render_of-r, After-slice_known-21-1, Start}
+use Rattle.render.proofs.render_lent.Goals.{After-render_of-r}
 
 -- the state that the call was given
-abbrev given : Start → State
+abbrev given : After-render_of-r → State
 given c = state_of c.args.words.now c.args.longs.now c.args.floats.now c.args.contexts.now c.args.history.now
-
--- from where each call has answered to where the one before it has
-abbrev started : After-render_of-r → Start
-started c = entered c.before.before
-
-abbrev sounded : After-slice_known-21-1 → After-buffers-1
-sounded c = back (finished c).before.before.before.before.before
 
 -- what the voices are given
 abbrev over : After-render_of-r → Render
-over c = render_over c.render-of.result (started c).args.ranges.now
+over c = render_over c.render_of-r.result c.args.ranges.now
 
 -- the voices can be played with it
-ready : (c : After-render_of-r) → Playing (started c).args.p (over c) (started c).args.memory.now 0 (given (started c))
+ready : (c : After-render_of-r) → Playing c.args.p (over c) c.args.memory.now 0 (given c)
 ready c =
-    let start = started c in
-    let a = start.args in
-    let same = sym (c.render_of-r.ensures a.ranges.now) in
-    subst (λ (r : Render). Playing a.p r a.memory.now 0 (given start)) same start.pre.0
+    let same = sym (c.render_of-r.ensures c.args.ranges.now) in
+    subst (λ (r : Render). Playing c.args.p r c.args.memory.now 0 (given c)) same c.requires.fact_1
 
 pub overflow_cast-n : goal.overflow_cast-n
 overflow_cast-n c = Fits-below tt c.requires.fact_1.desk.allowed.samples
@@ -47,63 +38,54 @@ pub overflow_mul-total : goal.overflow_mul-total
 overflow_mul-total c = Fits-below tt (floats_upto c.requires.fact_1)
 
 pub count_render-requires : goal.count_render-requires
-count_render-requires c = omega (arith, (started (goal.at.count_render-requires c).After-render_of-r).pre.0.desk.sized.longs)
+count_render-requires c = omega (arith, c.requires.fact_1.desk.sized.longs)
 
 pub slice_bounds-render_voices-end : goal.slice_bounds-render_voices-end
-slice_bounds-render_voices-end c =
-    (started (goal.at.slice_bounds-render_voices-end c).After-render_of-r).pre.1.1.0.room
+slice_bounds-render_voices-end c = c.requires.fact_3.room
 
 pub slice_bounds-render_voices-end-2 : goal.slice_bounds-render_voices-end-2
-slice_bounds-render_voices-end-2 c =
-    let start = started (goal.at.slice_bounds-render_voices-end-2 c).After-render_of-r in
-    sym (length-take-le (floats_for start.args.p) start.args.buffers.now start.pre.1.1.0.room)
+slice_bounds-render_voices-end-2 c = sym (length-take-le (floats_for c.args.p) c.args.buffers.now c.requires.fact_3.room)
 
 pub render_voices-rounds-requires : goal.render_voices-rounds-requires
 render_voices-rounds-requires c =
-    let start = started (goal.at.render_voices-rounds-requires c).After-render_of-r in record { fact_1 = counted_playing {st = given start} (ready (goal.at.render_voices-rounds-requires c).After-render_of-r) c.count_render.ensures; fact_2 = start.pre.1.1.1.heard }
+    let made = (goal.at.render_voices-rounds-requires c).After-render_of-r in
+    record { fact_1 = counted_playing {st = given made} (ready made) c.count_render.ensures; fact_2 = c.requires.fact_4.heard }
 
 pub slice_bounds-finish-end : goal.slice_bounds-finish-end
-slice_bounds-finish-end c =
-    room_kept c.buffers-1.given.1 (started (made ((goal.at.slice_bounds-finish-end c).After-render_of-r))).pre.1.1.0.room
+slice_bounds-finish-end c = room_kept c.buffers-1.given.1 c.requires.fact_3.room
 
 pub slice_bounds-finish-end-2 : goal.slice_bounds-finish-end-2
-slice_bounds-finish-end-2 c =
-    sym (length-take-le _ _ (room_kept c.buffers-1.given.1 (started (made ((goal.at.slice_bounds-finish-end-2 c).After-render_of-r))).pre.1.1.0.room))
+slice_bounds-finish-end-2 c = sym (length-take-le _ _ (room_kept c.buffers-1.given.1 c.requires.fact_3.room))
 
 pub slice_bounds-finish-end-3 : goal.slice_bounds-finish-end-3
-slice_bounds-finish-end-3 c =
-    room_kept c.render_voices-rounds.auto.src (started ((goal.at.slice_bounds-finish-end-3 c).After-struct_known-1)).pre.1.1.1.row
+slice_bounds-finish-end-3 c = room_kept c.render_voices-rounds.auto.src c.requires.fact_4.row
 
 pub slice_bounds-finish-end-4 : goal.slice_bounds-finish-end-4
 slice_bounds-finish-end-4 c =
-    let start = started ((goal.at.slice_bounds-finish-end-4 c).After-struct_known-1) in
-    let row = room_kept c.render_voices-rounds.auto.src start.pre.1.1.1.row in
+    let row = room_kept c.render_voices-rounds.auto.src c.requires.fact_4.row in
     sym (length-take-le _ _ row)
 
 pub finish-requires : goal.finish-requires
 finish-requires c =
-    let start = started (made (goal.at.finish-requires c).After-count_render) in
-    let playing = counted_playing {st = given start} (ready (made (goal.at.finish-requires c).After-count_render)) c.count_render.ensures in
-    let row = room_kept c.render_voices-rounds.auto.src start.pre.1.1.1.row in record { fact_1 = after_mixable _ playing c.render_voices-rounds.ensures; fact_2 = length-take-le _ _ row; fact_3 = start.pre.1.0 }
+    let made = (goal.at.finish-requires c).After-render_of-r in
+    let playing = counted_playing {st = given made} (ready made) c.count_render.ensures in
+    let row = room_kept c.render_voices-rounds.auto.src c.requires.fact_4.row in
+    record { fact_1 = after_mixable _ playing c.render_voices-rounds.ensures; fact_2 = length-take-le _ _ row; fact_3 = c.requires.fact_2 }
 
 pub returns : goal.returns
 returns c =
-    let voiced = voiced (sounded c) in
-    let counted = counted voiced in
-    let made = made counted in
-    let start = started made in
-    let a = start.args in
-    let last = voiced.render-voices.last in
-    let total = floats_for a.p in
-    let blank = start.pre.1.1.0 in
-    let lent = take total a.buffers.now in
-    let mix = last.1.1.1.1.1.1.1.1.1.0 in
-    let long = voiced.render-voices.kept.1.1.1.1.1.1.1.1.1.0 ∙ length-take-le total _ blank.room in
-    let again = take_at mix (drop total a.buffers.now) total long in
-    let same = ap (λ (b : List Float). frames_on a.p last.1.1.1.1.0 last.1.1.1.1.1.1.0 b a.frames.now) again in
-    render_done_lem a.p (over made) a.memory.now (given start) lent a.frames.now
-    counted.count-render.ensures
-    voiced.render-voices.ensures
+    let made = (goal.at.returns c).After-render_of-r in
+    let last = c.render_voices-rounds.new in
+    let total = floats_for c.args.p in
+    let blank = c.requires.fact_3 in
+    let lent = take total c.args.buffers.now in
+    let mix = last.buffers in
+    let long = c.render_voices-rounds.auto.buffers ∙ length-take-le total _ blank.room in
+    let again = take_at mix (drop total c.args.buffers.now) total long in
+    let same = ap (λ (b : List Float). frames_on c.args.p last.words last.floats b c.args.frames.now) again in
+    render_done_lem c.args.p (over made) c.args.memory.now (given made) lent c.args.frames.now
+    c.count_render.ensures
+    c.render_voices-rounds.ensures
     (c.finish.ensures ∙ same)
-    ∙ (λ i. rendered_on a.p (made.render-of.ensures a.ranges.now i) a.memory.now (given start) lent a.frames.now)
-    ∙ blank_rendered a.p (ranges_of a.ranges.now) a.memory.now (given start) a.buffers.now a.frames.now blank
+    ∙ (λ i. rendered_on c.args.p (c.render_of-r.ensures c.args.ranges.now i) c.args.memory.now (given made) lent c.args.frames.now)
+    ∙ blank_rendered c.args.p (ranges_of c.args.ranges.now) c.args.memory.now (given made) c.args.buffers.now c.args.frames.now blank

@@ -8,7 +8,9 @@ use Rattle.render.proofs.rooms.render_24576.Goals as goal
 
 pub render_lent-requires : goal.render_lent-requires
 unfolding of_bits room_floats room_samples
-render_lent-requires c =
-    let start =
-    (goal.at.render_lent-requires c).Start in
-    let pre = start.pre in record { fact_1 = pre.0; fact_2 = pre.1.0; fact_3 = blank_of pre.1.1; fact_4 = rows_of pre.1.1 260 }
+render_lent-requires c = record {
+  fact_1 = c.requires.fact_1;
+  fact_2 = c.requires.fact_2;
+  fact_3 = blank_of c.requires.fact_3;
+  fact_4 = rows_of c.requires.fact_3 260;
+}
