@@ -63,6 +63,7 @@ module _ (m m' : List ℕ) where
       (by_tests q x (holds q.base q.size x) (eqb (get_or m place 0) (get_or m' place 0)) refl has
       (both_left (same_in q m m' x) (same_at rs m m' x) t))
   at_address (q ∷ rs) x t r (Memᴰ.tail i) lo hi = at_address rs x (both_right (same_in q m m' x) (same_at rs m m' x) t) r i lo hi
+  at_address [] x t r i lo hi = elim i [ ]
 
   module _ (rs : List Range) where
     -- ---- at the addresses of a span
@@ -93,3 +94,4 @@ module _ (m m' : List ℕ) where
         at_address rs x (ap (same_at rs m m') w'.2 ∙ here) r i lo hi
     agrees (s ∷ spans) t r i x lo hi (u, Memᴰ.tail j, w) =
         agrees spans (both_right (same_from rs m m' s.at s.long) (same_on rs m m' spans) t) r i x lo hi (u, j, w)
+    agrees [] t r i x lo hi (u, j, w) = elim j [ ]

@@ -1,6 +1,6 @@
 -- Two states of two sessions at the same place in their lists. Assumes nothing.
 use Rattle.std.specs.Prelude.{◌≡◌, ℕ}
-use Rattle.std.proofs.Common.{ap, sym}
+use Rattle.std.proofs.Common.{ap}
 use Rattle.params.specs.declared.params.Params.{Params}
 use Rattle.params.specs.Params.{params_of}
 use Rattle.state.specs.State.{State, params_in}

@@ -1,9 +1,8 @@
 -- The bytes of sample memory that a voice declares, and when it is routed, as docs/QUESTIONS.md words it. Definitions only.
-use Rattle.std.specs.Prelude.{◌≡◌, Bool, true, false, cond, ◌||◌, ℕ, zero, suc, ◌+◌, ◌^◌, ◌%◌, ◌<◌}
+use Rattle.std.specs.Prelude.{◌≡◌, Bool, false, cond, ◌||◌, ℕ, zero, suc, ◌+◌, ◌^◌, ◌%◌, ◌<◌}
 use mathlib.Core.List.{List, [], ◌∷◌, ◌++◌, Memᴰ}
 use Rattle.ranges.specs.Ranges.{Range}
 use Rattle.fields.specs.Fields.{field_at}
-use Rattle.params.specs.declared.params.Params.{Params}
 use Rattle.state.specs.State.{State, params_in}
 use Rattle.voice_records.specs.Record.{record_used, wave_record}
 use Rattle.voices.specs.Voices.{voice_record}

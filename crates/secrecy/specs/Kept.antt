@@ -61,6 +61,7 @@ whole_at st w (c ∷ cs) (suc r) = whole_at (after st c) (call_fine st w c).whol
 said_other : (st : State) → Whole st → (cs : List Call) (s : Said) → Memᴰ s (said_all st cs) → s.number ≡ 4 → ⊥
 said_other st w (c ∷ cs) s (Memᴰ.head e) = subst (λ (x : Said). x.number ≡ 4 → ⊥) (sym e) (call_fine st w c).other
 said_other st w (c ∷ cs) s (Memᴰ.tail i) = said_other (after st c) (call_fine st w c).whole cs s i
+said_other st w [] s i = elim i [ ]
 
 -- ---- a session
 

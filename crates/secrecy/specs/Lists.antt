@@ -1,7 +1,7 @@
 -- Two sessions, call by call: what is said of each call, the bytes declared and the voices routed are the same whatever sample memory holds, and the frames of
 -- call r are, where at each render up to it the memories agree on what the voices routed before it read. Assumes nothing.
-use Rattle.std.specs.Prelude.{◌≡◌, refl, Bool, true, false, cond, ◌||◌, ◌⊎◌, ℕ, zero, suc, ◌≤◌, ◌<◌, T, eqb, Float, length}
-use Rattle.std.proofs.Common.{ap, sym, subst, ◌∙◌, inl, inr, ⊎_elim, zero-le, suc-le-suc}
+use Rattle.std.specs.Prelude.{◌≡◌, refl, Bool, true, false, cond, ◌||◌, ℕ, zero, suc, ◌≤◌, ◌<◌, T, eqb}
+use Rattle.std.proofs.Common.{ap, sym, subst, ◌∙◌, ⊎_elim, zero-le, suc-le-suc}
 use mathlib.Core.List.{List, [], ◌∷◌, ◌++◌, map, nil≢cons, cons≢nil, head-eq_of_cons-eq, tail-eq_of_cons-eq}
 use Rattle.ranges.specs.Ranges.{Range}
 use Rattle.params.specs.declared.params.Params.{Params}
@@ -9,12 +9,12 @@ use Rattle.params.specs.Params.{params_of}
 use Rattle.state.specs.State.{State, params_in}
 use Rattle.state_voices.specs.StateVoices.{voice_in, voice_on}
 use Rattle.render.specs.Render.{render_of}
-use Rattle.alike.specs.Reads.{Span, voice_reads}
+use Rattle.alike.specs.Reads.{voice_reads}
 use Rattle.update_alike.specs.Routes.{routes}
 use Rattle.alike.specs.Alike.{Alike, live, Named}
-use Rattle.secrecy.specs.Sessions.{Call, Shape, updates, renders, shape, after, Said, said, succeeds, frames_by, state_at, said_all, frames_at}
+use Rattle.secrecy.specs.Sessions.{Call, Shape, updates, renders, shape, after, Said, succeeds, state_at, said_all, frames_at}
 use Rattle.secrecy.specs.Declared.{reads, spans_by, declares, declared, routes_by, routing, routed}
-use Rattle.secrecy.specs.Demand.{AgreeOn, call_at}
+use Rattle.secrecy.specs.Demand.{call_at}
 use Rattle.secrecy.specs.Both.{Both}
 use Rattle.secrecy.specs.Steps.{Fair, Stepped, step, heard_after}
 
@@ -39,9 +39,9 @@ module _ {p : Params} where
   said_same h [] [] e = refl
   said_same h [] (c' ∷ cs') e = absurd (nil≢cons e)
   said_same h (c ∷ cs) [] e = absurd (cons≢nil e)
-  said_same h (c ∷ cs) (c' ∷ cs') e =
+  said_same {a = a} {b = b} h (c ∷ cs) (c' ∷ cs') e =
       let s = unasked h c c' (head-eq_of_cons-eq e) in
-      let rest = said_same s.both cs cs' (tail-eq_of_cons-eq e) in
+      let rest = said_same {a = after a c} {b = after b c'} s.both cs cs' (tail-eq_of_cons-eq e) in
       λ i. s.same i ∷ rest i
 
   -- the states at a place of both lists
@@ -51,7 +51,7 @@ module _ {p : Params} where
   both_at h [] (c' ∷ cs') e r = absurd (nil≢cons e)
   both_at h (c ∷ cs) [] e r = absurd (cons≢nil e)
   both_at h (c ∷ cs) (c' ∷ cs') e zero = h
-  both_at h (c ∷ cs) (c' ∷ cs') e (suc r) = both_at (unasked h c c' (head-eq_of_cons-eq e)).both cs cs' (tail-eq_of_cons-eq e) r
+  both_at {a = a} {b = b} h (c ∷ cs) (c' ∷ cs') e (suc r) = both_at {a = after a c} {b = after b c'} (unasked h c c' (head-eq_of_cons-eq e)).both cs cs' (tail-eq_of_cons-eq e) r
 
   -- ---- frames
 
@@ -113,9 +113,9 @@ module _ {p : Params} (k : ℕ) where
   declared_same h [] (c' ∷ cs') e r = absurd (nil≢cons e)
   declared_same h (c ∷ cs) [] e r = absurd (cons≢nil e)
   declared_same h (c ∷ cs) (c' ∷ cs') e zero = declares_same h c c' (head-eq_of_cons-eq e) k
-  declared_same h (c ∷ cs) (c' ∷ cs') e (suc r) =
+  declared_same {a = a} {b = b} h (c ∷ cs) (c' ∷ cs') e (suc r) =
       let first = declares_same h c c' (head-eq_of_cons-eq e) k in
-      let rest = declared_same (unasked h c c' (head-eq_of_cons-eq e)).both cs cs' (tail-eq_of_cons-eq e) r in
+      let rest = declared_same {a = after a c} {b = after b c'} (unasked h c c' (head-eq_of_cons-eq e)).both cs cs' (tail-eq_of_cons-eq e) r in
       λ i. first i ++ rest i
 
   pub routed_same : {a b : State} → Both p None a b → (cs cs' : List Call) → map shape cs ≡ map shape cs' → (r : ℕ) → routed a cs r k ≡ routed b cs' r k
@@ -123,7 +123,7 @@ module _ {p : Params} (k : ℕ) where
   routed_same h [] (c' ∷ cs') e r = absurd (nil≢cons e)
   routed_same h (c ∷ cs) [] e r = absurd (cons≢nil e)
   routed_same h (c ∷ cs) (c' ∷ cs') e zero = refl
-  routed_same h (c ∷ cs) (c' ∷ cs') e (suc r) =
+  routed_same {a = a} {b = b} h (c ∷ cs) (c' ∷ cs') e (suc r) =
       let first = routing_same h c c' (head-eq_of_cons-eq e) k in
-      let rest = routed_same (unasked h c c' (head-eq_of_cons-eq e)).both cs cs' (tail-eq_of_cons-eq e) r in
+      let rest = routed_same {a = after a c} {b = after b c'} (unasked h c c' (head-eq_of_cons-eq e)).both cs cs' (tail-eq_of_cons-eq e) r in
       λ i. first i || rest i

@@ -1,5 +1,5 @@
 -- An open that succeeds makes one and the same state, whatever its slices held. Assumes nothing.
-use Rattle.std.specs.Prelude.{◌≡◌, refl, Bool, true, false, cond, ℕ, ◌<◌, T}
+use Rattle.std.specs.Prelude.{◌≡◌, refl, Bool, true, false, cond, ℕ, T}
 use Rattle.std.proofs.Common.{subst, sym, arith}
 use Rattle.params.specs.declared.params.Params.{Params}
 use Rattle.params.specs.Sizes.{Allowed}

@@ -3,7 +3,7 @@ use Rattle.std.specs.Prelude.{◌≡◌, List, map, ℕ}
 use Rattle.params.specs.declared.params.Params.{Params}
 use Rattle.params.specs.Params.{params_of}
 use Rattle.state.specs.State.{State}
-use Rattle.whole.specs.Whole.{whole_of, whole_is}
+use Rattle.whole.specs.Whole.{whole_is}
 use Rattle.desk_order.specs.Listed.{listed_of}
 use Rattle.desk_render.specs.DeskRender.{order_by}
 use Rattle.calls.specs.Calls.{open_call, order_given, order_call}

@@ -1,5 +1,5 @@
 -- The frames of every render of a session lie in [-1, 1] or are NaN. Assumes nothing.
-use Rattle.std.specs.Prelude.{◌≡◌, refl, Bool, cond, ℕ, zero, suc, ◌*◌, eqb, Float, take}
+use Rattle.std.specs.Prelude.{◌≡◌, Bool, ℕ, zero, suc, ◌*◌, Float}
 use Rattle.std.proofs.Common.{sym}
 use Rattle.std.proofs.Math.Path.{subst}
 use Rattle.std.proofs.Math.Bool.{true, false}
@@ -14,12 +14,12 @@ use Rattle.whole.specs.Whole.{Whole}
 use Rattle.sink.specs.Sink.{each}
 use Rattle.frames.specs.Laws.{frames_in_range}
 use Rattle.desk_render.specs.DeskRender.{frames_by}
-use Rattle.voice_turn.specs.Played.{Studio, studio}
+use Rattle.voice_turn.specs.Played.{studio}
 use Rattle.render_turns.specs.Turns.{voices_rendered}
 use Rattle.render.specs.Render.{elapsed, render_of, rendered_on, rendered_by}
 use Rattle.render_alike.specs.Render.{frames_first}
 use Rattle.calls.specs.Calls.{RenderOutcome, render_done, open_call}
-use Rattle.secrecy.specs.Sessions.{Call, update, render, after, frames_by as frames_seen, frames_at, state_at}
+use Rattle.secrecy.specs.Sessions.{Call, update, render, after, frames_by as frames_seen, frames_at}
 use Rattle.secrecy.specs.Demand.{begun}
 use Rattle.secrecy.specs.Renders.{seen_frames, asked_by, render_is}
 use Rattle.secrecy.specs.Kept.{call_fine, session_whole}

@@ -1,15 +1,14 @@
 -- A call that is refused leaves the state as it was, and declares and routes nothing. Assumes nothing.
 use Rattle.std.specs.Prelude.{◌≡◌, Bool, cond, List, [], ℕ, leb, eqb, Float, length}
 use Rattle.std.proofs.Math.Path.{refl}
-use Rattle.std.proofs.Common.{sym, ◌∙◌, true≢false}
+use Rattle.std.proofs.Common.{true≢false}
 use Rattle.std.proofs.Math.Bool.{true, false}
 use Rattle.ranges.specs.Ranges.{Range}
 use Rattle.ranges.specs.Questions.{laid_of, near_of}
 use Rattle.params.specs.Sizes.{reply_length}
 use Rattle.state.specs.State.{State, params_in}
 use Rattle.whole.specs.Whole.{whole_of}
-use Rattle.alike.specs.Reads.{Span}
-use Rattle.calls.specs.Calls.{UpdateOutcome, update_left, update_done, update_call, RenderOutcome, render_left, render_done, render_call}
+use Rattle.calls.specs.Calls.{update_left, update_done, update_call, render_left, render_done, render_call}
 use Rattle.secrecy.specs.Sessions.{Call, update, render, shape, after, succeeds}
 use Rattle.secrecy.specs.Declared.{spans_by, declares, routes_by, routing}
 use Rattle.secrecy.specs.Renders.{room_for, asked_by}

@@ -13,9 +13,9 @@ use Rattle.ranges.proofs.Questions.{laid_facts}
 use Rattle.memory.proofs.Bytes.{read_same}
 use Rattle.params.specs.declared.params.Params.{Params}
 use Rattle.state.specs.State.{State, params_in}
-use Rattle.whole.specs.Whole.{Whole, whole_of, whole_is}
+use Rattle.whole.specs.Whole.{Whole, whole_is}
 use Rattle.state_voices.specs.StateVoices.{voice_in}
-use Rattle.render.specs.Render.{render_of, Rendered, rendered_by}
+use Rattle.render.specs.Render.{rendered_by}
 use Rattle.render_keeps.specs.Keeps.{render_params, render_whole}
 use Rattle.alike.specs.Reads.{Span}
 use Rattle.alike.specs.Alike.{Alike, SameReads, Named}
@@ -31,6 +31,7 @@ use Rattle.secrecy.specs.Both.{Both, params_same}
 each_near : {n e : ℕ} {rs : List Range} → Ascending n e rs → (r : Range) → Memᴰ r rs → r.base + r.size ≤ 2 ^ 63
 each_near (more a p q s) r (Memᴰ.head i) = subst (λ (x : Range). x.base + x.size ≤ 2 ^ 63) (sym i) q
 each_near (more a p q s) r (Memᴰ.tail i) = each_near s r i
+each_near none r i = elim i [ ]
 
 -- an address of a range lies below 2 ^ 63, so that one of a read is one of its span
 pub same_reads : (rs : List Range) (m m' : List ℕ) → length m ≡ length m' → Ascending (length m) 0 rs → (spans : List Span)

@@ -1,8 +1,8 @@
 -- Demand 3 holds. Assumes nothing.
-use Rattle.std.specs.Prelude.{◌≡◌, refl, Bool, true, false, cond, ℕ, zero, suc, ◌≤◌, ◌<◌, T}
+use Rattle.std.specs.Prelude.{◌≡◌, Bool, true, false, cond, ℕ, zero, suc, T}
 use Rattle.std.proofs.Common.{sym, subst, ◌∙◌}
 use mathlib.Core.List.Memᴰ
-use mathlib.Core.List.{List, [], ◌∷◌, ◌++◌, map, Memᴰ}
+use mathlib.Core.List.{List, [], ◌∷◌, map, Memᴰ}
 use Rattle.params.specs.declared.params.Params.{Params}
 use Rattle.params.specs.Sizes.{Allowed}
 use Rattle.state.specs.State.{State}
@@ -11,7 +11,7 @@ use Rattle.calls.specs.Calls.{open_call}
 use Rattle.alike.specs.Reads.{Span}
 use Rattle.secrecy.specs.Sessions.{Call, update, render, shape, after, succeeds, state_at, said_all, frames_at}
 use Rattle.secrecy.specs.Declared.{spans_by, declares, declared, routed}
-use Rattle.secrecy.specs.Demand.{AgreeOn, call_at, Condition, ReadCondition, begun, Demand3}
+use Rattle.secrecy.specs.Demand.{AgreeOn, call_at, ReadCondition, begun, Demand3}
 use Rattle.secrecy.specs.Opens.{opens, opened_both, opened_silent}
 use Rattle.secrecy.specs.Lists.{None, said_same, frames_same, declared_same, routed_same}
 

@@ -2,9 +2,8 @@
 -- before it left. Definitions only.
 use Rattle.std.specs.Prelude.{Bool, cond, List, [], ◌∷◌, ℕ, zero, suc, ◌*◌, eqb, Float, length, take}
 use Rattle.ranges.specs.Ranges.{Range}
-use Rattle.params.specs.declared.params.Params.{Params}
 use Rattle.state.specs.State.{State, params_in}
-use Rattle.calls.specs.Calls.{open_call, update_call, render_call}
+use Rattle.calls.specs.Calls.{update_call, render_call}
 
 -- ---- calls
 

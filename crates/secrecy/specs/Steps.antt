@@ -1,6 +1,6 @@
 -- A call at the same place of two sessions. Assumes nothing.
-use Rattle.std.specs.Prelude.{◌≡◌, refl, Bool, cond, ◌⊎◌, List, [], ℕ, ◌<◌, T, eqb, leb, Float, length}
-use Rattle.std.proofs.Common.{ap, sym, ◌∙◌, true≢false, inr}
+use Rattle.std.specs.Prelude.{◌≡◌, refl, Bool, cond, ◌⊎◌, List, [], ℕ, ◌<◌, T, eqb, Float, length}
+use Rattle.std.proofs.Common.{ap, sym, true≢false, inr}
 use Rattle.std.proofs.Math.Path.{subst}
 use Rattle.std.proofs.Math.Bool.{true, false}
 use Rattle.std.proofs.Math.Logic.{inl}
@@ -8,7 +8,6 @@ use Rattle.ranges.specs.Ranges.{Range}
 use Rattle.ranges.specs.Questions.{laid_of, near_of}
 use Rattle.ranges.proofs.Questions.{laid_facts}
 use Rattle.params.specs.declared.params.Params.{Params}
-use Rattle.params.specs.Sizes.{reply_length}
 use Rattle.state.specs.State.{State, params_in}
 use Rattle.whole.specs.Whole.{Whole}
 use Rattle.state_voices.specs.StateVoices.{voice_in}
@@ -16,7 +15,7 @@ use Rattle.alike.specs.Alike.{live, Named}
 use Rattle.update_alike.specs.Routes.{routes}
 use Rattle.update_alike.specs.Live.{update_live}
 use Rattle.render_alike.specs.Live.{render_live}
-use Rattle.calls.specs.Calls.{UpdateOutcome, update_done, update_call, RenderOutcome, render_done, render_call}
+use Rattle.calls.specs.Calls.{UpdateOutcome, update_done, RenderOutcome, render_done}
 use Rattle.secrecy.specs.Sessions.{Call, update, render, shape, after, said, succeeds, frames_by}
 use Rattle.secrecy.specs.Shapes.{is_update, expected_of, input_of, ranges_in, memory_of, length_of}
 use Rattle.secrecy.specs.Declared.{reads, spans_by, routing}

@@ -1,5 +1,5 @@
 -- An update at the same place of two sessions: it says the same, and leaves states that are as before. Assumes nothing.
-use Rattle.std.specs.Prelude.{◌≡◌, refl, Bool, cond, List, ℕ, ◌+◌, ◌*◌, ◌≤◌, leb, take, get_or}
+use Rattle.std.specs.Prelude.{◌≡◌, refl, Bool, cond, List, ℕ, ◌≤◌, leb, take, get_or}
 use Rattle.std.proofs.Math.Path.{ap, sym}
 use Rattle.std.proofs.Common.{subst, ◌∙◌, arith}
 use Rattle.std.proofs.Math.Bool.{true, false}
@@ -9,7 +9,7 @@ use Rattle.rows.specs.Rows.{part, put, part_put_same}
 use Rattle.params.specs.declared.params.Params.{Params}
 use Rattle.params.specs.Sizes.{reply_length}
 use Rattle.state.specs.State.{State, Sized, params_in, voice_words_in, voice_longs_in}
-use Rattle.whole.specs.Whole.{Whole, whole_of, whole_is}
+use Rattle.whole.specs.Whole.{Whole, whole_is}
 use Rattle.reply.specs.Reply.{reply_of}
 use Rattle.reply.specs.Laws.{length_reply}
 use Rattle.updates.specs.Update.{updated, update_reply}
