@@ -1,4 +1,5 @@
 -- `across::decode_adpcm` meets its contract: what the stretch has room for lies in the slice. Assumes nothing.
+use borrow.Author.Rules.{rules}
 use mathlib.Core.Path.{refl}
 use native.Mathlib.Omega.{arith}
 use Rattle.across.proofs.Lying.{lies}
@@ -24,3 +25,6 @@ returns-then-bytes-s c =
     c.if-bytes-s.true in
     decodes_same c.args.start c.args.want c.args.coefficients.now c.args.x (lie.bytes refl)
     c.decode_adpcm.ensures
+
+pub decode_across-requires : goal.decode_across-requires
+decode_across-requires c = search rules
