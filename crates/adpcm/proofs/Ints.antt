@@ -70,6 +70,6 @@ scaled_le v s h k = mag_mul (signed4 v) (pos (2 ^ (11 + s))) {j = 32} {k = 2 ^ 2
 pub shl_one : (s : ℕ) → s < 16 → 1 * 2 ^ (11 + s) % 2 ^ 64 ≡ 2 ^ (11 + s)
 shl_one s h = shl_exact 1 (11 + s) 64 (omega arith) (omega arith) ∙ omega arith
 
--- what the machine reads back of a call's result, whose range is c.CALL.ok
+-- what the machine reads back of a call's result, whose range is c.CALL.type_inv
 pub back : (w : Width) (z : ℤ) → mag z < 2 ^ hbits w → to_z w (of_z w z) ≡ z
 back w z p = to_z-of_z {w = w} {z = z} (record { sfits = p })

@@ -1,7 +1,7 @@
 -- Floats that are integers: sums, differences and products of up to 2^24 in size are exact. Assumes nothing.
-use Rattle.std.proofs.Common.{◌≡◌, ℕ, zero, suc, ◌+◌, ◌-◌, ◌*◌, ◌^◌, ◌<◌, ◌≤◌, Bool, true, false, cond, not, T, ltb, ℤ, pos, negsuc, ◌+ℤ◌, ◌-ℤ◌, nat_abs, sym, refl, ap, ◌∙◌, subst, le_refl, mul-le-mul_right, add-mul, mul-lt-mul_of_pos_right, one-mul, arith, ltb→lt, nltb→le, le-ltb, lt-ltb}
+use Rattle.std.proofs.Common.{◌≡◌, ℕ, zero, suc, ◌+◌, ◌-◌, ◌*◌, ◌^◌, ◌<◌, ◌≤◌, Bool, true, false, not, T, ltb, ℤ, pos, negsuc, ◌+ℤ◌, ◌-ℤ◌, nat_abs, sym, refl, ap, ◌∙◌, subst, le_refl, mul-le-mul_right, add-mul, mul-lt-mul_of_pos_right, one-mul, arith, ltb→lt, nltb→le, le-ltb, lt-ltb}
 use lib.IntN.{sub_ℕ, +ℤ_idr}
-use lib.Ieee.{Float, binary32, round, sum, add, sub, mul, neg, fits, of_int}
+use lib.Ieee.{Float, binary32, sum, add, sub, mul, neg, fits, of_int}
 use lib.Ieee.Fits.{of_int-fits}
 use lib.Ieee.Exact.{HasValue}
 use lib.Ieee.Back.{round_whole, whole_unique}

@@ -3,7 +3,6 @@ use mathlib.Core.Path.{ap}
 use Prim.Native.Nat.{ℕ}
 use native.Mathlib.Omega.{arith}
 use lib.Dec.{ltb}
-use borrow.Author.Rules.{rules}
 use Rattle.desk_rows.specs.Laws.{no_destination, not_used, by_its_mix}
 use Rattle.desk_rows.proofs.configured.Goals as goal
 

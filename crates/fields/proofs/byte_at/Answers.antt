@@ -1,7 +1,6 @@
 -- `fields::byte_at` meets its contract: inside, the field is the byte. Assumes nothing.
 use Prim.Native.Nat.{◌+◌}
 use native.Mathlib.Omega.{arith}
-use borrow.Author.Rules.{rules}
 use lib.ListN.{length}
 use Rattle.fields.specs.Reads.{byte_is}
 use Rattle.fields.proofs.Answers.{passed, reads_in, reads_out}

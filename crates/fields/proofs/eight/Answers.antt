@@ -1,6 +1,5 @@
 -- `fields::eight` meets its contract: `le` at 4 + 4. Assumes nothing.
 use native.Mathlib.Omega.{arith}
-use borrow.Author.Rules.{rules}
 use Rattle.fields.specs.Reads.{le_split}
 use Rattle.fields.proofs.eight.Goals as goal
 

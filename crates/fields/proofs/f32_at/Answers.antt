@@ -1,6 +1,5 @@
 -- `fields::f32_at` meets its contract: it is the float of the bits that `u32_at` reads. Assumes nothing.
 use mathlib.Core.Path.{ap, ◌∙◌}
-use borrow.Author.Rules.{rules}
 use lib.Ieee.{of_bits, binary32}
 use Rattle.fields.proofs.f32_at.Goals as goal
 

@@ -1,5 +1,4 @@
 -- `fields::flag_at` meets its contract. Assumes nothing.
-use borrow.Author.Rules.{rules}
 use Rattle.fields.specs.Fields.{flag_at}
 use Rattle.fields.proofs.flag_at.Goals as goal
 

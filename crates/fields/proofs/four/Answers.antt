@@ -1,6 +1,5 @@
 -- `fields::four` meets its contract: `le` at 2 + 2. Assumes nothing.
 use native.Mathlib.Omega.{arith}
-use borrow.Author.Rules.{rules}
 use Rattle.fields.specs.Reads.{le_split}
 use Rattle.fields.proofs.four.Goals as goal
 

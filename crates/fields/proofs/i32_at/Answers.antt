@@ -1,6 +1,5 @@
 -- `fields::i32_at` meets its contract: it is the signed number of `u32_at`. Assumes nothing.
 use mathlib.Core.Path.{ap, ◌∙◌}
-use borrow.Author.Rules.{rules}
 use mir.Val.{to_z}
 use mir.Facts.{to_z-of_z}
 use mir.Syntax.{w32}

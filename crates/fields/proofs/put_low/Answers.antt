@@ -1,8 +1,6 @@
 -- `fields::put_low` meets its contract: `Putting` holds at each turn. Assumes nothing.
-use Prim.Native.Nat.{◌-◌}
 use native.Mathlib.Omega.{arith}
-use borrow.Author.Rules.{rules}
-use Rattle.fields.proofs.Putting.{Putting, begin, more, end}
+use Rattle.fields.proofs.Putting.{begin, more, end}
 use Rattle.fields.proofs.put_low.Goals as goal
 
 pub loop-k-init : goal.loop-k-init

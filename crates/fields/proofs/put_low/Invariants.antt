@@ -1,7 +1,5 @@
 use Prim.Native.Nat.{◌-◌}
-use native.Mathlib.Omega.{arith}
-use borrow.Author.Rules.{rules}
-use Rattle.fields.proofs.Putting.{Putting, begin, more, end}
+use Rattle.fields.proofs.Putting.{Putting}
 use Rattle.fields.proofs.put_low.Given as goal
 
 abbrev pub invariant-loop-k : goal.invariant-loop-k

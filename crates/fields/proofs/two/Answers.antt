@@ -1,6 +1,5 @@
 -- `fields::two` meets its contract: two steps of `le`. Assumes nothing.
 use native.Mathlib.Omega.{arith}
-use borrow.Author.Rules.{rules}
 use Rattle.fields.specs.Fields.{le}
 use Rattle.fields.proofs.two.Goals as goal
 

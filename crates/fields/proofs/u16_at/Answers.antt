@@ -1,5 +1,4 @@
 -- `fields::u16_at` meets its contract: inside, the field is what `two` reads. Assumes nothing.
-use borrow.Author.Rules.{rules}
 use Rattle.fields.proofs.Answers.{passed, reads_in, reads_out}
 use Rattle.fields.proofs.u16_at.Goals as goal
 

@@ -1,5 +1,4 @@
 -- `fields::u64_at` meets its contract: inside, the field is what `eight` reads. Assumes nothing.
-use borrow.Author.Rules.{rules}
 use Rattle.fields.proofs.Answers.{passed, reads_in, reads_out}
 use Rattle.fields.proofs.u64_at.Goals as goal
 

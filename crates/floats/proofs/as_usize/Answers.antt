@@ -1,5 +1,5 @@
 -- `floats::as_usize` meets its contract: between -1 and 2^64 the truncation, else the ends. Assumes nothing.
-use Rattle.std.proofs.Common.{T, sym, subst, rules}
+use Rattle.std.proofs.Common.{T, sym, subst}
 use lib.Ieee.{of_bits, neg}
 use Rattle.floats.proofs.Facts.{too_large, not_above}
 use Rattle.floats.proofs.as_usize.Goals as goal

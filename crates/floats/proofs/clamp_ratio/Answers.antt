@@ -1,5 +1,5 @@
 -- `floats::clamp_ratio` meets its contract: its test is `finite`, its clamp the definition's. Assumes nothing.
-use Rattle.std.proofs.Common.{Bool, cond, sym, ap, ◌∙◌, rules}
+use Rattle.std.proofs.Common.{Bool, cond, sym, ap, ◌∙◌}
 use lib.Ieee.{of_bits}
 use Rattle.floats.specs.Defs.{clamp_of, ratio_of, zero32, sixteen}
 use Rattle.floats.proofs.clamp_ratio.Goals as goal

@@ -1,5 +1,5 @@
 -- `floats::floor` meets its contract: below 2^24 in size the whole part is a u32 and a float, from there on x is whole. Assumes nothing.
-use Rattle.std.proofs.Common.{◌≡◌, ℕ, suc, true, false, T, pos, sym, ap, ◌∙◌, subst, add-one, arith, rules}
+use Rattle.std.proofs.Common.{◌≡◌, ℕ, suc, true, false, T, pos, sym, ap, ◌∙◌, subst, add-one, arith}
 use lib.Ieee.{Float, of_bits, neg, to_unsigned, of_int, eq, binary32}
 use Rattle.floats.proofs.WholePart.{near_ok, near_lt, near_stays, near_cut, far_stays, under_ok, under_lt, under_stays, under_cut, below_stays}
 use Rattle.floats.proofs.floor.Goals as goal

@@ -1,5 +1,5 @@
 -- `floats::from_bits` meets its contract: a NaN's pattern, without its sign, is above the infinity's. Assumes nothing.
-use Rattle.std.proofs.Common.{Bool, not, T, sym, ◌∙◌, subst, rules, le-ltb, lt-ltb}
+use Rattle.std.proofs.Common.{Bool, not, T, sym, ◌∙◌, subst, le-ltb, lt-ltb}
 use lib.Ieee.{of_bits, div, binary32}
 use lib.Ieee.Bits.{nan_bits_above, nan_bits_is}
 use Rattle.floats.proofs.Facts.{is_nan_lem}

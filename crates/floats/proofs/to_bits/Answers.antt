@@ -1,5 +1,5 @@
 -- `floats::to_bits` meets its contract: x != x is the test for a NaN. Assumes nothing.
-use Rattle.std.proofs.Common.{T, sym, ap, subst, rules}
+use Rattle.std.proofs.Common.{T, sym, ap, subst}
 use lib.Ieee.{to_bits, binary32}
 use lib.Ieee.Compare.{differs_from_itself}
 use Rattle.floats.proofs.Facts.{no_nan}

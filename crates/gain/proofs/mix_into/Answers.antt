@@ -1,5 +1,5 @@
 -- `gain::mix_into` meets its contract: the row that is lent to `mix_row` comes back in its place. Assumes nothing.
-use Rattle.std.proofs.Common.{◌≡◌, ℕ, ◌+◌, ◌*◌, ◌^◌, ◌<◌, ◌≤◌, false, ◌&&◌, List, length, sym, ap, ◌∙◌, le_of_lt, mul-le-mul, arith, rules}
+use Rattle.std.proofs.Common.{◌≡◌, ℕ, ◌+◌, ◌*◌, ◌^◌, ◌<◌, ◌≤◌, false, ◌&&◌, List, length, sym, ap, ◌∙◌, le_of_lt, mul-le-mul, arith}
 use lib.Ieee.{Float, eq, of_bits}
 use Rattle.floats.specs.Defs.{zero32}
 use Rattle.rows.specs.Rows.{part}

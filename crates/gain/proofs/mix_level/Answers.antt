@@ -1,8 +1,8 @@
 -- `gain::mix_level` meets its contract: `Doing` holds at each turn. Assumes nothing.
-use Rattle.std.proofs.Common.{◌+◌, ◌-◌, ◌<◌, List, length, drop, refl, arith, rules}
+use Rattle.std.proofs.Common.{◌+◌, ◌<◌, List, length, drop, refl, arith}
 use lib.Ieee.{Float}
 use Rattle.gain.specs.Gain.{level}
-use Rattle.gain.proofs.Doing.{Doing, begin, more, end, level_at_lem}
+use Rattle.gain.proofs.Doing.{begin, more, end, level_at_lem}
 use Rattle.gain.proofs.mix_level.Goals as goal
 
 pub loop-i-init : goal.loop-i-init

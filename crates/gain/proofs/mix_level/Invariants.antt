@@ -1,7 +1,7 @@
-use Rattle.std.proofs.Common.{◌+◌, ◌-◌, ◌<◌, List, length, drop, refl, arith, rules}
+use Rattle.std.proofs.Common.{◌-◌, List, length, drop}
 use lib.Ieee.{Float}
 use Rattle.gain.specs.Gain.{level}
-use Rattle.gain.proofs.Doing.{Doing, begin, more, end, level_at_lem}
+use Rattle.gain.proofs.Doing.{Doing}
 use Rattle.gain.proofs.mix_level.Given as goal
 
 abbrev pub invariant-loop-i : goal.invariant-loop-i

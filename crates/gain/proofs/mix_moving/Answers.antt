@@ -1,8 +1,8 @@
 -- `gain::mix_moving` meets its contract: `Doing` holds at each turn. Assumes nothing.
-use Rattle.std.proofs.Common.{◌+◌, ◌-◌, ◌<◌, List, length, drop, refl, arith, rules}
+use Rattle.std.proofs.Common.{◌+◌, ◌<◌, List, length, drop, refl, arith}
 use lib.Ieee.{Float, binary32, add}
 use Rattle.gain.specs.Gain.{mixed}
-use Rattle.gain.proofs.Doing.{Doing, begin, more, end, mixed_at}
+use Rattle.gain.proofs.Doing.{begin, more, end, mixed_at}
 use Rattle.gain.proofs.mix_moving.Goals as goal
 
 pub loop-i-init : goal.loop-i-init

@@ -1,7 +1,7 @@
-use Rattle.std.proofs.Common.{◌+◌, ◌-◌, ◌<◌, List, length, drop, refl, arith, rules}
-use lib.Ieee.{Float, binary32, add}
+use Rattle.std.proofs.Common.{◌-◌, List, length, drop}
+use lib.Ieee.{Float}
 use Rattle.gain.specs.Gain.{mixed}
-use Rattle.gain.proofs.Doing.{Doing, begin, more, end, mixed_at}
+use Rattle.gain.proofs.Doing.{Doing}
 use Rattle.gain.proofs.mix_moving.Given as goal
 
 abbrev pub invariant-loop-i : goal.invariant-loop-i

@@ -1,5 +1,5 @@
 -- `gain::mix_row` meets its contract: a gain that does not move is level. Assumes nothing.
-use Rattle.std.proofs.Common.{◌∙◌, rules}
+use Rattle.std.proofs.Common.{◌∙◌}
 use Rattle.gain.specs.Laws.{level_is}
 use Rattle.gain.proofs.mix_row.Goals as goal
 

@@ -1,6 +1,5 @@
 -- `gain::ramp` meets its contract: its test is the definition's, and so is the step; a gain that does not move is level. Assumes nothing.
-use Rattle.std.proofs.Common.{sym, ap, ◌∙◌, rules}
-use borrow.Author.Tests.{not-false}
+use Rattle.std.proofs.Common.{sym, ap, ◌∙◌}
 use lib.Ieee.{Float, of_bits}
 use Rattle.gain.specs.Gain.{ramp_of, ramped}
 use Rattle.gain.specs.Laws.{scaled_is}

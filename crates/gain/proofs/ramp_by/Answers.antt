@@ -1,8 +1,8 @@
 -- `gain::ramp_by` meets its contract: `Doing` holds at each turn. Assumes nothing.
-use Rattle.std.proofs.Common.{◌-◌, ◌<◌, length, refl, arith, rules}
+use Rattle.std.proofs.Common.{◌<◌, length, refl, arith}
 use lib.Ieee.{binary32, add}
 use Rattle.gain.specs.Gain.{ramped}
-use Rattle.gain.proofs.Doing.{Doing, begin, more, end, ramped_at}
+use Rattle.gain.proofs.Doing.{begin, more, end, ramped_at}
 use Rattle.gain.proofs.ramp_by.Goals as goal
 
 pub loop-i-init : goal.loop-i-init

@@ -1,7 +1,6 @@
-use Rattle.std.proofs.Common.{◌-◌, ◌<◌, length, refl, arith, rules}
-use lib.Ieee.{binary32, add}
+use Rattle.std.proofs.Common.{◌-◌, length}
 use Rattle.gain.specs.Gain.{ramped}
-use Rattle.gain.proofs.Doing.{Doing, begin, more, end, ramped_at}
+use Rattle.gain.proofs.Doing.{Doing}
 use Rattle.gain.proofs.ramp_by.Given as goal
 
 abbrev pub invariant-loop-i : goal.invariant-loop-i

@@ -1,7 +1,7 @@
 -- `gain::ramp_level` meets its contract: `Doing` holds at each turn. Assumes nothing.
-use Rattle.std.proofs.Common.{◌-◌, ◌<◌, length, refl, arith, rules}
+use Rattle.std.proofs.Common.{◌<◌, length, refl, arith}
 use Rattle.gain.specs.Gain.{scaled}
-use Rattle.gain.proofs.Doing.{Doing, begin, more, end, scaled_at}
+use Rattle.gain.proofs.Doing.{begin, more, end, scaled_at}
 use Rattle.gain.proofs.ramp_level.Goals as goal
 
 pub loop-i-init : goal.loop-i-init

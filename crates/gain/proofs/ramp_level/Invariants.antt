@@ -1,6 +1,6 @@
-use Rattle.std.proofs.Common.{◌-◌, ◌<◌, length, refl, arith, rules}
+use Rattle.std.proofs.Common.{◌-◌, length}
 use Rattle.gain.specs.Gain.{scaled}
-use Rattle.gain.proofs.Doing.{Doing, begin, more, end, scaled_at}
+use Rattle.gain.proofs.Doing.{Doing}
 use Rattle.gain.proofs.ramp_level.Given as goal
 
 abbrev pub invariant-loop-i : goal.invariant-loop-i

@@ -1,5 +1,4 @@
 -- `gain::step_of` meets its contract: the same operations in the same order. Assumes nothing.
-use Rattle.std.proofs.Common.{rules}
 use Rattle.gain.specs.Gain.{step_of}
 use Rattle.gain.proofs.step_of.Goals as goal
 

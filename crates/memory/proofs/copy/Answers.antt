@@ -1,9 +1,7 @@
 -- `memory::copy` meets its contract: `Copied` holds at each turn. Assumes nothing.
-use Prim.Native.Nat.{◌-◌}
 use mathlib.Core.Path.{refl}
 use native.Mathlib.Omega.{arith}
-use borrow.Author.Rules.{rules}
-use Rattle.memory.proofs.Copying.{Copied, copied_none, copied_length, copied_more, copied_all}
+use Rattle.memory.proofs.Copying.{copied_none, copied_length, copied_more, copied_all}
 use Rattle.memory.proofs.copy.Goals as goal
 
 pub loop-k-init : goal.loop-k-init

@@ -1,8 +1,5 @@
 use Prim.Native.Nat.{◌-◌}
-use mathlib.Core.Path.{refl}
-use native.Mathlib.Omega.{arith}
-use borrow.Author.Rules.{rules}
-use Rattle.memory.proofs.Copying.{Copied, copied_none, copied_length, copied_more, copied_all}
+use Rattle.memory.proofs.Copying.{Copied}
 use Rattle.memory.proofs.copy.Given as goal
 
 abbrev pub invariant-loop-k : goal.invariant-loop-k

@@ -3,13 +3,10 @@
 use Prim.Native.Nat.{◌-◌, ◌≤◌}
 use mathlib.Core.Path.{sym, ◌∙◌}
 use native.Mathlib.Omega.{arith}
-use borrow.Author.Rules.{rules}
 use lib.ListN.{length}
-use Rattle.ranges.specs.Ranges.{ranges_of}
 use Rattle.ranges.proofs.Laws.{goes_on_lem}
-use Rattle.ranges.proofs.Walk.{Walk, walk_begin, walk_here, walk_more}
-use Rattle.memory.specs.Memory.{read_of}
-use Rattle.memory.proofs.Gathering.{Gathering, gather_begin, gather_part, gather_more, gather_end}
+use Rattle.ranges.proofs.Walk.{walk_begin, walk_here, walk_more}
+use Rattle.memory.proofs.Gathering.{gather_begin, gather_part, gather_more, gather_end}
 use Rattle.memory.proofs.gather.Goals as goal
 use Rattle.memory.proofs.gather.Goals.{In-loop-base}
 

@@ -1,13 +1,9 @@
-use Prim.Native.Nat.{◌-◌, ◌≤◌}
-use mathlib.Core.Path.{sym, ◌∙◌}
-use native.Mathlib.Omega.{arith}
-use borrow.Author.Rules.{rules}
+use Prim.Native.Nat.{◌-◌}
 use lib.ListN.{length}
 use Rattle.ranges.specs.Ranges.{ranges_of}
-use Rattle.ranges.proofs.Laws.{goes_on_lem}
-use Rattle.ranges.proofs.Walk.{Walk, walk_begin, walk_here, walk_more}
+use Rattle.ranges.proofs.Walk.{Walk}
 use Rattle.memory.specs.Memory.{read_of}
-use Rattle.memory.proofs.Gathering.{Gathering, gather_begin, gather_part, gather_more, gather_end}
+use Rattle.memory.proofs.Gathering.{Gathering}
 use Rattle.memory.proofs.gather.Given as goal
 
 abbrev pub invariant-loop-base : goal.invariant-loop-base

@@ -1,10 +1,8 @@
 -- `ranges::follow` meets its contract: what is asked of the ranges that are left is what was asked of all. Assumes nothing.
-use Rattle.std.proofs.Common.{◌≡◌, ◌-◌, length, sym, refl, ◌∙◌, arith, rules}
-use borrow.Author.Tests.{not-true, not-false}
-use Rattle.ranges.specs.Ranges.{ranges_of}
+use Rattle.std.proofs.Common.{sym, refl, ◌∙◌, arith}
 use Rattle.ranges.specs.Questions.{follow}
 use Rattle.ranges.proofs.Tests.{and_passed, and_failed}
-use Rattle.ranges.proofs.Walk.{Walk, walk_begin, walk_here, walk_more, walk_end}
+use Rattle.ranges.proofs.Walk.{walk_begin, walk_here, walk_more, walk_end}
 use Rattle.ranges.proofs.follow.Goals as goal
 
 pub loop-i-init : goal.loop-i-init

@@ -1,9 +1,7 @@
-use Rattle.std.proofs.Common.{◌≡◌, ◌-◌, length, sym, refl, ◌∙◌, arith, rules}
-use borrow.Author.Tests.{not-true, not-false}
+use Rattle.std.proofs.Common.{◌≡◌, ◌-◌, length}
 use Rattle.ranges.specs.Ranges.{ranges_of}
 use Rattle.ranges.specs.Questions.{follow}
-use Rattle.ranges.proofs.Tests.{and_passed, and_failed}
-use Rattle.ranges.proofs.Walk.{Walk, walk_begin, walk_here, walk_more, walk_end}
+use Rattle.ranges.proofs.Walk.{Walk}
 use Rattle.ranges.proofs.follow.Given as goal
 
 abbrev pub invariant-loop-i : goal.invariant-loop-i

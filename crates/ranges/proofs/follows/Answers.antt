@@ -1,6 +1,5 @@
 -- `ranges::follows` meets its contract, test by test. Assumes nothing.
-use Rattle.std.proofs.Common.{sym, ◌∙◌, rules}
-use borrow.Author.Tests.{not-true, not-false}
+use Rattle.std.proofs.Common.{sym, ◌∙◌}
 use Rattle.ranges.specs.Questions.{follows}
 use Rattle.ranges.proofs.Tests.{and_passed, and_failed}
 use Rattle.ranges.proofs.follows.Goals as goal

@@ -1,5 +1,5 @@
 -- `ranges::laid` meets its contract: the first test is of how many ranges there are. Assumes nothing.
-use Rattle.std.proofs.Common.{length, ◌∙◌, arith, rules, le-leb}
+use Rattle.std.proofs.Common.{length, ◌∙◌, arith, le-leb}
 use borrow.Author.Tests.{lt-leb}
 use Rattle.ranges.specs.Ranges.{ranges_of}
 use Rattle.ranges.specs.Questions.{laid_of}

@@ -1,5 +1,5 @@
 -- `ranges::pass` meets its contract: each way out is one case of where the place lies. Assumes nothing.
-use Rattle.std.proofs.Common.{◌≡◌, ◌-◌, sym, ◌∙◌, arith, rules}
+use Rattle.std.proofs.Common.{◌≡◌, ◌-◌, sym, ◌∙◌, arith}
 use Rattle.ranges.specs.Ranges.{room_of}
 use Rattle.ranges.proofs.Holds.{holds_inside, holds_below, holds_past}
 use Rattle.ranges.proofs.Laws.{at_held, at_kept, left_held, left_kept}

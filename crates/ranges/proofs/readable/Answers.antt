@@ -1,5 +1,5 @@
 -- `ranges::readable` meets its contract: the ranges that are left give what is left just where all give the whole. Assumes nothing.
-use Rattle.std.proofs.Common.{◌≡◌, ℕ, ◌-◌, ◌≤◌, Bool, false, eqb, List, length, drop, sym, refl, ap, ◌∙◌, ⊎_elim, arith, rules, eq-eqb}
+use Rattle.std.proofs.Common.{◌≡◌, ℕ, ◌-◌, ◌≤◌, Bool, false, eqb, List, length, drop, sym, refl, ap, ◌∙◌, ⊎_elim, arith, eq-eqb}
 use Rattle.ranges.specs.Ranges.{ranges_of, left_of, readable_of, goes_on}
 use Rattle.ranges.proofs.Laws.{goes_on_lem, goes_stop, readable_more, readable_none}
 use Rattle.ranges.proofs.Walk.{Walk, walk_begin, walk_more, walk_end}

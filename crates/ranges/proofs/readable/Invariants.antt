@@ -1,7 +1,6 @@
-use Rattle.std.proofs.Common.{◌≡◌, ℕ, ◌-◌, ◌≤◌, Bool, false, eqb, List, length, drop, sym, refl, ap, ◌∙◌, ⊎_elim, arith, rules, eq-eqb}
-use Rattle.ranges.specs.Ranges.{ranges_of, left_of, readable_of, goes_on}
-use Rattle.ranges.proofs.Laws.{goes_on_lem, goes_stop, readable_more, readable_none}
-use Rattle.ranges.proofs.Walk.{Walk, walk_begin, walk_more, walk_end}
+use Rattle.std.proofs.Common.{◌≡◌, ◌-◌, length}
+use Rattle.ranges.specs.Ranges.{ranges_of, readable_of}
+use Rattle.ranges.proofs.Walk.{Walk}
 use Rattle.ranges.proofs.readable.Given as goal
 
 abbrev pub invariant-loop-r : goal.invariant-loop-r

@@ -1,10 +1,10 @@
 -- `ranges::stretch_at` meets its contract: the stretch in the ranges that are left is that in all. Assumes nothing.
-use Rattle.std.proofs.Common.{◌≡◌, ℕ, ◌+◌, ◌-◌, ◌%◌, ◌^◌, true, List, ◌∷◌, length, sym, refl, ap, ◌∙◌, arith, rules}
-use Rattle.ranges.specs.Ranges.{Range, ranges_of, has, room_in}
+use Rattle.std.proofs.Common.{◌≡◌, ℕ, ◌+◌, ◌-◌, ◌%◌, ◌^◌, true, List, ◌∷◌, sym, refl, ap, ◌∙◌, arith}
+use Rattle.ranges.specs.Ranges.{Range, has, room_in}
 use Rattle.ranges.specs.Stretch.{stretch, stretch_of}
 use Rattle.ranges.proofs.Holds.{held_where}
 use Rattle.ranges.proofs.Stretches.{stretch_here, stretch_there}
-use Rattle.ranges.proofs.Walk.{Walk, walk_begin, walk_here, walk_more, walk_end}
+use Rattle.ranges.proofs.Walk.{walk_begin, walk_here, walk_more, walk_end}
 use Rattle.ranges.proofs.stretch_at.Goals as goal
 
 -- what is made where a range has the address

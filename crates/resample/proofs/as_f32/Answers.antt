@@ -1,5 +1,5 @@
 -- `resample::as_f32` meets its contract: up to 2^24 the cast is exact. Assumes nothing.
-use Rattle.std.proofs.Common.{◌^◌, arith, le→leb, rules}
+use Rattle.std.proofs.Common.{◌^◌, arith, le→leb}
 use lib.Ieee.{in_float}
 use Rattle.resample.proofs.as_f32.Goals as goal
 

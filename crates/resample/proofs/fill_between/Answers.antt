@@ -1,8 +1,8 @@
 -- `resample::fill_between` meets its contract: each turn makes one more output, wherever the whole part was looked for. Assumes nothing.
-use Rattle.std.proofs.Common.{◌-◌, ap, ◌∙◌, arith, rules}
+use Rattle.std.proofs.Common.{ap, ◌∙◌, arith}
 use lib.Ieee.{Float}
 use Rattle.resample.specs.Defs.{next_of, sample_from, index_at, sample_at}
-use Rattle.resample.proofs.Filling.{Filling, begin, more, whole}
+use Rattle.resample.proofs.Filling.{begin, more, whole}
 use Rattle.resample.proofs.fill_between.Goals as goal
 
 pub loop-k-init : goal.loop-k-init

@@ -1,7 +1,5 @@
-use Rattle.std.proofs.Common.{◌-◌, ap, ◌∙◌, arith, rules}
-use lib.Ieee.{Float}
-use Rattle.resample.specs.Defs.{next_of, sample_from, index_at, sample_at}
-use Rattle.resample.proofs.Filling.{Filling, begin, more, whole}
+use Rattle.std.proofs.Common.{◌-◌}
+use Rattle.resample.proofs.Filling.{Filling}
 use Rattle.resample.proofs.fill_between.Given as goal
 
 abbrev pub invariant-loop-k : goal.invariant-loop-k

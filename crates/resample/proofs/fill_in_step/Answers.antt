@@ -1,8 +1,8 @@
 -- `resample::fill_in_step` meets its contract: output k is the cubic at 0 through the points from k on. Assumes nothing.
-use Rattle.std.proofs.Common.{◌-◌, sym, ◌∙◌, arith, rules}
+use Rattle.std.proofs.Common.{sym, ◌∙◌, arith}
 use lib.Ieee.{of_bits}
 use Rattle.resample.specs.InStep.{in_step_sample, in_step_next}
-use Rattle.resample.proofs.Filling.{Filling, begin, more, whole}
+use Rattle.resample.proofs.Filling.{begin, more, whole}
 use Rattle.resample.proofs.fill_in_step.Goals as goal
 
 pub loop-k-init : goal.loop-k-init

@@ -1,7 +1,5 @@
-use Rattle.std.proofs.Common.{◌-◌, sym, ◌∙◌, arith, rules}
-use lib.Ieee.{of_bits}
-use Rattle.resample.specs.InStep.{in_step_sample, in_step_next}
-use Rattle.resample.proofs.Filling.{Filling, begin, more, whole}
+use Rattle.std.proofs.Common.{◌-◌}
+use Rattle.resample.proofs.Filling.{Filling}
 use Rattle.resample.proofs.fill_in_step.Given as goal
 
 abbrev pub invariant-loop-k : goal.invariant-loop-k

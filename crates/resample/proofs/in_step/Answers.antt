@@ -1,7 +1,6 @@
 -- `resample::in_step` meets its contract: the bits are those of 1 and 0. Assumes nothing.
-use Rattle.std.proofs.Common.{◌≡◌, T, leb, sym, ap, ◌∙◌, subst, arith, leb→le, rules}
+use Rattle.std.proofs.Common.{◌≡◌, T, sym, ap, ◌∙◌, subst, arith, leb→le}
 use lib.Ieee.{of_bits, binary32}
-use Rattle.floats.specs.Defs.{one}
 use Rattle.resample.specs.InStep.{by_bits}
 use Rattle.resample.proofs.in_step.Goals as goal
 

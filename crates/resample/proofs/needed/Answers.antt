@@ -1,5 +1,4 @@
 -- `resample::needed` meets its contract: it cuts the place as the definition does. Assumes nothing.
-use Rattle.std.proofs.Common.{rules}
 use Rattle.resample.specs.Defs.{needed_of}
 use Rattle.resample.proofs.needed.Goals as goal
 

@@ -1,5 +1,4 @@
 -- `resample::place` meets its contract: the same operations in the same order. Assumes nothing.
-use Rattle.std.proofs.Common.{rules}
 use Rattle.resample.specs.Defs.{pos_at}
 use Rattle.resample.proofs.place.Goals as goal
 

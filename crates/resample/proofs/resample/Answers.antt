@@ -1,7 +1,7 @@
 -- `resample::resample` meets its contract: either way `fill` runs over the points of the input. Assumes nothing.
-use Rattle.std.proofs.Common.{◌≡◌, ℕ, List, [], ◌∷◌, ◌++◌, get_or, drop, sym, ap, ◌∙◌, rules}
+use Rattle.std.proofs.Common.{◌≡◌, ℕ, List, [], ◌∷◌, ◌++◌, get_or, drop, sym, ap, ◌∙◌}
 use lib.Ieee.{Float, nan}
-use Rattle.resample.specs.Defs.{fourth, points_of, samples, resampled}
+use Rattle.resample.specs.Defs.{points_of, samples, resampled}
 use Rattle.resample.specs.Laws.{points_short, points_long}
 use Rattle.resample.proofs.resample.Goals as goal
 

@@ -1,5 +1,5 @@
 -- `resample::sample` meets its contract: the four neighbours start at most at length - 4, so each is read inside. Assumes nothing.
-use Rattle.std.proofs.Common.{◌≡◌, ℕ, ◌+◌, ◌-◌, min, List, length, get_or, pos, rules}
+use Rattle.std.proofs.Common.{◌≡◌, ℕ, ◌+◌, ◌-◌, min, List, length, get_or, pos}
 use lib.Ieee.{Float, nan, binary32, sub, of_int, to_unsigned}
 use Rattle.floats.specs.Defs.{one, min_of}
 use Rattle.resample.specs.Defs.{cubic, sample_from, index_at}

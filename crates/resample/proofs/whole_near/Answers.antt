@@ -1,5 +1,5 @@
 -- `resample::whole_near` meets its contract: near, near + 1 and near + 2 are floats, and the place lies between two of them. Assumes nothing.
-use Rattle.std.proofs.Common.{ℕ, ◌+◌, ◌^◌, ◌<◌, false, pos, arith, le→leb, rules}
+use Rattle.std.proofs.Common.{ℕ, ◌+◌, ◌^◌, ◌<◌, false, pos, arith, le→leb}
 use lib.Ieee.{Float, binary32, in_float, of_int, of_bits, add}
 use lib.Ieee.Exact.{HasValue}
 use Rattle.floats.specs.Defs.{one}

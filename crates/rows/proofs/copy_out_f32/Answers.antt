@@ -1,11 +1,8 @@
 -- `rows::copy_out_f32` meets its contract: `Copying` holds at each turn. Assumes nothing.
 use mathlib.Core.Path.{refl}
-use Prim.Native.Nat.{◌-◌}
 use native.Mathlib.Omega.{arith}
-use borrow.Author.Rules.{rules}
-use lib.ListN.{length}
 use lib.Ieee.{nan}
-use Rattle.rows.proofs.Copying.{Copying, begin, more, end_out}
+use Rattle.rows.proofs.Copying.{begin, more, end_out}
 use Rattle.rows.proofs.copy_out_f32.Goals as goal
 
 pub loop-k-init : goal.loop-k-init

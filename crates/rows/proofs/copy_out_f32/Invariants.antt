@@ -1,10 +1,6 @@
-use mathlib.Core.Path.{refl}
 use Prim.Native.Nat.{◌-◌}
-use native.Mathlib.Omega.{arith}
-use borrow.Author.Rules.{rules}
 use lib.ListN.{length}
-use lib.Ieee.{nan}
-use Rattle.rows.proofs.Copying.{Copying, begin, more, end_out}
+use Rattle.rows.proofs.Copying.{Copying}
 use Rattle.rows.proofs.copy_out_f32.Given as goal
 
 abbrev pub invariant-loop-k : goal.invariant-loop-k

@@ -1,9 +1,6 @@
-use mathlib.Core.Path.{refl}
 use Prim.Native.Nat.{◌-◌}
-use native.Mathlib.Omega.{arith}
-use borrow.Author.Rules.{rules}
 use lib.ListN.{length}
-use Rattle.rows.proofs.Copying.{Copying, begin, more, end_out}
+use Rattle.rows.proofs.Copying.{Copying}
 use Rattle.rows.proofs.copy_out_u16.Given as goal
 
 abbrev pub invariant-loop-k : goal.invariant-loop-k

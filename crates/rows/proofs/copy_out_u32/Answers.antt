@@ -1,10 +1,7 @@
 -- `rows::copy_out_u32` meets its contract: `Copying` holds at each turn. Assumes nothing.
 use mathlib.Core.Path.{refl}
-use Prim.Native.Nat.{◌-◌}
 use native.Mathlib.Omega.{arith}
-use borrow.Author.Rules.{rules}
-use lib.ListN.{length}
-use Rattle.rows.proofs.Copying.{Copying, begin, more, end_out}
+use Rattle.rows.proofs.Copying.{begin, more, end_out}
 use Rattle.rows.proofs.copy_out_u32.Goals as goal
 
 pub loop-k-init : goal.loop-k-init

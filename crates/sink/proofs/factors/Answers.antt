@@ -1,6 +1,5 @@
 -- `sink::factors` meets its contract: the default's literals are the nearest floats. Assumes nothing.
 use mathlib.Core.Path.{sym, ap}
-use borrow.Author.Rules.{rules}
 use lib.Ieee.{of_bits, round}
 use Rattle.sink.specs.Sink.{factors_of}
 use Rattle.sink.proofs.factors.Goals as goal

@@ -1,6 +1,5 @@
 -- `sink::one_side` meets its contract: the same operations in the same order. Assumes nothing.
 use mathlib.Core.Path.{refl}
-use borrow.Author.Rules.{rules}
 use Rattle.sink.specs.Sink.{side}
 use Rattle.sink.proofs.one_side.Goals as goal
 

@@ -1,6 +1,5 @@
 -- `sink::put_frame` meets its contract: two stores. Assumes nothing.
 use native.Mathlib.Omega.{arith}
-use borrow.Author.Rules.{rules}
 use lib.ListN.{length-set}
 use Rattle.sink.proofs.put_frame.Goals as goal
 

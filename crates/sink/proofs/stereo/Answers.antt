@@ -1,11 +1,7 @@
 -- `sink::stereo` meets its contract: `Framing` holds at each turn. Assumes nothing.
 use mathlib.Core.Path.{refl}
-use Prim.Native.Nat.{◌-◌}
 use native.Mathlib.Omega.{arith}
-use borrow.Author.Rules.{rules}
-use lib.ListN.{get_or}
-use lib.Ieee.{nan}
-use Rattle.sink.proofs.Framing.{Framing, begin, more, end}
+use Rattle.sink.proofs.Framing.{begin, more, end}
 use Rattle.sink.proofs.stereo.Goals as goal
 
 pub loop-i-init : goal.loop-i-init

@@ -1,10 +1,7 @@
-use mathlib.Core.Path.{refl}
 use Prim.Native.Nat.{◌-◌}
-use native.Mathlib.Omega.{arith}
-use borrow.Author.Rules.{rules}
 use lib.ListN.{get_or}
 use lib.Ieee.{nan}
-use Rattle.sink.proofs.Framing.{Framing, begin, more, end}
+use Rattle.sink.proofs.Framing.{Framing}
 use Rattle.sink.proofs.stereo.Given as goal
 
 abbrev pub invariant-loop-i : goal.invariant-loop-i

@@ -1,11 +1,6 @@
 -- `sink::surround` meets its contract: `Framing` holds at each turn. Assumes nothing.
-use Prim.Native.Nat.{◌-◌}
 use native.Mathlib.Omega.{arith}
-use borrow.Author.Rules.{rules}
-use lib.ListN.{get_or}
-use lib.Ieee.{nan}
-use Rattle.sink.specs.Sink.{side}
-use Rattle.sink.proofs.Framing.{Framing, begin, room, more, end}
+use Rattle.sink.proofs.Framing.{begin, room, more, end}
 use Rattle.sink.proofs.surround.Goals as goal
 
 pub loop-i-init : goal.loop-i-init

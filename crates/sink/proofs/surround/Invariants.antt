@@ -1,10 +1,8 @@
 use Prim.Native.Nat.{◌-◌}
-use native.Mathlib.Omega.{arith}
-use borrow.Author.Rules.{rules}
 use lib.ListN.{get_or}
 use lib.Ieee.{nan}
 use Rattle.sink.specs.Sink.{side}
-use Rattle.sink.proofs.Framing.{Framing, begin, room, more, end}
+use Rattle.sink.proofs.Framing.{Framing}
 use Rattle.sink.proofs.surround.Given as goal
 
 abbrev pub invariant-loop-i : goal.invariant-loop-i

@@ -1,5 +1,4 @@
 -- `sink::to_unit` meets its contract: 1 / 32768 is the definition's factor. Assumes nothing.
-use borrow.Author.Rules.{rules}
 use lib.Ieee.{of_bits, div, neg}
 use Rattle.sink.specs.Sink.{to_unit}
 use Rattle.sink.proofs.to_unit.Goals as goal

@@ -1,6 +1,5 @@
 -- `sink::write_sink` meets its contract: the rows lent are the inputs', and each count of inputs has its frames. Assumes nothing.
 use native.Mathlib.Omega.{arith}
-use borrow.Author.Rules.{rules}
 use Rattle.sink.proofs.Inputs.{row_long, none, single, pair, six}
 use Rattle.sink.proofs.write_sink.Goals as goal
 

@@ -1,17 +1,7 @@
-use mathlib.Core.Path.{◌≡◌, refl, sym, ap, ◌∙◌}
-use mathlib.Core.List.{List, [], ◌∷◌, ◌++◌}
-use Prim.Native.Nat.{ℕ, ◌*◌, ◌-◌, ◌≤◌, ◌<◌}
-use native.Mathlib.Numerals.{add-one}
-use native.Mathlib.Omega.{arith}
-use borrow.Author.Rules.{rules}
-use lib.IntN.{ℤ}
-use lib.ListN.{length, take, set, length-set}
-use lib.Seq.{take-suc-set, take_all}
-use mir.Syntax.{w16}
-use mir.Val.{to_z, of_z}
-use Rattle.fields.specs.Fields.{field_at}
-use Rattle.adpcm.specs.Context.{first_coefficients, coefficients_of}
-use Rattle.adpcm.proofs.Ints.{back}
+use mathlib.Core.Path.{◌≡◌}
+use Prim.Native.Nat.{◌-◌, ◌≤◌}
+use lib.ListN.{length, take}
+use Rattle.adpcm.specs.Context.{first_coefficients}
 use Rattle.adpcm.proofs.context.coefficients.Given as goal
 
 abbrev pub invariant-loop-k : goal.invariant-loop-k

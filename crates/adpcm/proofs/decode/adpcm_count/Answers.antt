@@ -2,7 +2,6 @@
 use Prim.Native.Nat.{◌+◌, ◌-◌, ◌/◌}
 use mathlib.Core.Path.{◌≡◌, ◌∙◌}
 use native.Mathlib.Omega.{arith}
-use borrow.Author.Rules.{rules}
 use Rattle.adpcm.specs.Places.{nibble_of, nibble_le, held_of}
 use Rattle.adpcm.specs.Counts.{count_held}
 use Rattle.adpcm.proofs.decode.adpcm_count.Goals as goal

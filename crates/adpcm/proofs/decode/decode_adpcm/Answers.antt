@@ -1,15 +1,14 @@
 -- `adpcm::decode_adpcm` meets its contract: after each sample or whole frame, what is left is a run from there. Assumes nothing.
 use mathlib.Core.Path.{◌≡◌, sym, subst, ◌∙◌, ap}
 use Prim.Native.Nat.{ℕ, ◌+◌, ◌-◌, ◌%◌, ◌/◌, ◌≤◌}
-use borrow.Author.Rules.{rules}
 use native.Mathlib.Omega.{arith}
 use lib.Dec.{T}
-use lib.ListN.{length, take}
+use lib.ListN.{length}
 use mir.Syntax.{w16}
 use Rattle.adpcm.specs.Places.{nibble_of, nibble_mono}
 use Rattle.adpcm.specs.Decode.{Decodes, took_of, run_from}
 use Rattle.adpcm.proofs.Ints.{back}
-use Rattle.adpcm.proofs.Going.{Going, begin, more, cut, whole}
+use Rattle.adpcm.proofs.Going.{begin, more, cut, whole}
 use Rattle.adpcm.proofs.Frames.{run_frame}
 use Rattle.adpcm.proofs.Framed.{ahead_by}
 use Rattle.adpcm.proofs.decode.decode_adpcm.Goals as goal

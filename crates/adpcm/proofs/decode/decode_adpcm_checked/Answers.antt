@@ -1,7 +1,6 @@
 -- `adpcm::decode_adpcm_checked` meets its contract: each return is a case of the definition. Assumes nothing.
 use Prim.Native.Nat.{◌^◌}
 use native.Mathlib.Omega.{arith}
-use borrow.Author.Rules.{rules}
 use borrow.Author.Tests.{le-leb, lt-leb}
 use lib.ListN.{length}
 use Rattle.adpcm.specs.Answer.{outcome_of}

@@ -3,7 +3,6 @@ use mathlib.Core.Path.{◌≡◌, ◌∙◌, sym}
 use mathlib.Core.Bool.{Bool, true}
 use mathlib.Core.List.{List}
 use Prim.Native.Nat.{ℕ, ◌+◌, ◌-◌, ◌/◌, ◌%◌, ◌≤◌, ◌<◌}
-use borrow.Author.Rules.{rules}
 use borrow.Author.Tests.{le-leb, lt-leb}
 use native.Mathlib.Omega.{arith}
 use lib.Dec.{eqb}
@@ -48,7 +47,7 @@ returns-then-data-at c =
 
 pub overflow_cast-read : goal.overflow_cast-read
 overflow_cast-read c =
-    omega (arith, c.shared_slice_known-then-starts_frame-1.given c.index_from-at.result)
+    omega (arith, c.type_inv.«data» c.index_from-at.result)
 
 pub returns-else-data-at : goal.returns-else-data-at
 unfolding took_of

@@ -2,7 +2,6 @@
 use mathlib.Core.Path.{◌≡◌, ◌∙◌}
 use mathlib.Core.Bool.{Bool, true, false}
 use Prim.Native.Nat.{ℕ, ◌+◌, ◌%◌, ◌<◌}
-use borrow.Author.Rules.{rules}
 use borrow.Author.Tests.{le-leb, lt-leb}
 use native.Mathlib.Omega.{arith}
 use lib.IntN.{ℤ, pos}
@@ -39,10 +38,10 @@ module _ (c : After-step-s) where
   b1 = back w16 x.history1 (omega arith)
 
   kc : to_z w16 (of_z w16 (get_or k (pair_of x.pred_scale) (pos 0))) ≡ get_or k (pair_of x.pred_scale) (pos 0)
-  kc = back w16 _ c.c-1.given
+  kc = back w16 _ (omega arith)
 
   kd : to_z w16 (of_z w16 (get_or k (pair_of x.pred_scale + 1) (pos 0))) ≡ get_or k (pair_of x.pred_scale + 1) (pos 0)
-  kd = back w16 _ c.d-1.given
+  kd = back w16 _ (omega arith)
 
   sample : c.step-s.result ≡ (after v k x).history0
   sample = c.step-s.ensures ∙ (λ i. step_of (c.half-v.ensures i) (x.pred_scale % 16) (kc i) (kd i) (b0 i) (b1 i))
@@ -54,7 +53,7 @@ returns-then-data-at c = simp (le-leb _ _ c.if-data-at.true)
 pub step-s-requires : goal.step-s-requires
 step-s-requires c =
     let b : c.half-v.result < 16 =
-    rw c.half-v.ensures (half_lt c.args.high (get_or c.args.«data».now c.args.at 0) (omega (arith, c.shared_slice_known-2-1.given c.args.at))) in
+    rw c.half-v.ensures (half_lt c.args.high (get_or c.args.«data».now c.args.at 0) (omega (arith, c.type_inv.«data» c.args.at))) in
     omega arith
 
 pub returns : goal.returns

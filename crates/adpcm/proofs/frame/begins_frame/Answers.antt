@@ -2,7 +2,6 @@
 use mathlib.Core.Path.{subst}
 use native.Mathlib.Omega.{arith}
 use lib.Dec.{T, eqb→eq}
-use borrow.Author.Rules.{rules}
 use Rattle.adpcm.proofs.frame.begins_frame.Goals as goal
 
 pub returns : goal.returns

@@ -1,10 +1,10 @@
 -- `adpcm::decode_frame` meets its contract: each turn takes the two samples of a byte. Assumes nothing.
-use Prim.Native.Nat.{ℕ, ◌+◌, ◌*◌, ◌-◌, ◌/◌, ◌%◌, ◌≤◌}
+use Prim.Native.Nat.{ℕ, ◌+◌, ◌*◌, ◌/◌, ◌%◌}
 use mathlib.Core.Path.{◌≡◌, refl, sym, subst, ◌∙◌}
 use mathlib.Core.List.{List}
 use lib.IntN.{ℤ, pos}
 use native.Mathlib.Omega.{arith}
-use lib.ListN.{length, set, get_or, length-set}
+use lib.ListN.{set, get_or, length-set}
 use mir.Syntax.{w16}
 use mir.Val.{SFits, to_z, of_z}
 use Rattle.adpcm.specs.Step.{step_of}
@@ -12,8 +12,7 @@ use Rattle.adpcm.specs.Places.{nibble_of}
 use Rattle.adpcm.specs.Decode.{pair_of, run_from, Decodes}
 use Rattle.adpcm.specs.declared.context.AdpcmContext.{AdpcmContext}
 use Rattle.adpcm.proofs.Ints.{back}
-use Rattle.adpcm.proofs.Framed.{next, Framed, context, framed_begin, framed_more, framed_end}
-use borrow.Author.Rules.{rules}
+use Rattle.adpcm.proofs.Framed.{next, context, framed_begin, framed_more, framed_end}
 use Rattle.adpcm.proofs.frame.decode_frame.Goals as goal
 use Rattle.adpcm.proofs.frame.decode_frame.Goals.{After-step-low}
 
@@ -35,10 +34,10 @@ module _ (c : After-step-low) where
   b1 = back w16 x.history1 (c.loop-i.invariant.3 0).fits1.sfits
 
   kc : to_z w16 (of_z w16 (get_or k (pair_of (get_or f 0 0)) (pos 0))) ≡ get_or k (pair_of (get_or f 0 0)) (pos 0)
-  kc = back w16 _ c.c-1.given
+  kc = back w16 _ (omega arith)
 
   kd : to_z w16 (of_z w16 (get_or k (pair_of (get_or f 0 0) + 1) (pos 0))) ≡ get_or k (pair_of (get_or f 0 0) + 1) (pos 0)
-  kd = back w16 _ c.d-1.given
+  kd = back w16 _ (omega arith)
 
   -- the byte
   abbrev v : ℕ
@@ -64,7 +63,7 @@ loop-i-init c =
 
 pub step-high-requires : goal.step-high-requires
 step-high-requires c =
-    omega (arith, c.shared_slice_known-in-loop-i-1.given (c.loop-i.i + 1))
+    omega (arith, c.type_inv.frame (c.loop-i.i + 1))
 
 pub bounds-out-i-in-loop-i : goal.bounds-out-i-in-loop-i
 bounds-out-i-in-loop-i c = simp length-set (omega arith)

@@ -1,18 +1,7 @@
-use Prim.Native.Nat.{ℕ, ◌+◌, ◌*◌, ◌-◌, ◌/◌, ◌%◌, ◌≤◌}
-use mathlib.Core.Path.{◌≡◌, refl, sym, subst, ◌∙◌}
-use mathlib.Core.List.{List}
-use lib.IntN.{ℤ, pos}
-use native.Mathlib.Omega.{arith}
-use lib.ListN.{length, set, get_or, length-set}
-use mir.Syntax.{w16}
-use mir.Val.{SFits, to_z, of_z}
-use Rattle.adpcm.specs.Step.{step_of}
-use Rattle.adpcm.specs.Places.{nibble_of}
-use Rattle.adpcm.specs.Decode.{pair_of, run_from, Decodes}
-use Rattle.adpcm.specs.declared.context.AdpcmContext.{AdpcmContext}
-use Rattle.adpcm.proofs.Ints.{back}
-use Rattle.adpcm.proofs.Framed.{next, Framed, context, framed_begin, framed_more, framed_end}
-use borrow.Author.Rules.{rules}
+use Prim.Native.Nat.{ℕ, ◌-◌, ◌≤◌}
+use mathlib.Core.Path.{◌≡◌}
+use lib.ListN.{length}
+use Rattle.adpcm.proofs.Framed.{Framed, context}
 use Rattle.adpcm.proofs.frame.decode_frame.Given as goal
 
 abbrev pub invariant-loop-i : goal.invariant-loop-i

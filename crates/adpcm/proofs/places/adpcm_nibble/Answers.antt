@@ -1,5 +1,4 @@
 -- `adpcm::adpcm_nibble` meets its contract: each arm is a case of the definition. Assumes nothing.
-use borrow.Author.Rules.{rules}
 use native.Mathlib.Omega.{arith}
 use Rattle.adpcm.specs.Places.{nibble_at_lem}
 use Rattle.adpcm.proofs.places.adpcm_nibble.Goals as goal

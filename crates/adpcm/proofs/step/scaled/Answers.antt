@@ -1,7 +1,6 @@
 -- `adpcm::scaled` meets its contract: the power is at most 2^26, and the product is far below 2^63. Assumes nothing.
 use mathlib.Core.Path.{◌≡◌, ◌∙◌}
 use Prim.Native.Nat.{◌+◌, ◌*◌, ◌%◌, ◌^◌}
-use borrow.Author.Rules.{rules}
 use native.Mathlib.Omega.{arith}
 use lib.IntN.{pos, ◌*ℤ◌}
 use mir.Syntax.{w64}

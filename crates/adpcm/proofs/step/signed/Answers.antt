@@ -1,6 +1,5 @@
 -- `adpcm::signed` meets its contract: each arm is a case of the definition. Assumes nothing.
 use mathlib.Core.Path.{◌∙◌}
-use borrow.Author.Rules.{rules}
 use borrow.Author.Tests.{lt-ltb, le-ltb}
 use native.Mathlib.Omega.{arith}
 use lib.IntN.{pos, negsuc}

@@ -1,7 +1,6 @@
 -- `adpcm::step` meets its contract. Each operand is within 2^32, so that no sum comes near 2^63, and the machine's numbers are the integers. Assumes nothing.
 use mathlib.Core.Path.{◌≡◌, ◌∙◌}
 use Prim.Native.Nat.{◌+◌, ◌≤◌, ◌^◌}
-use borrow.Author.Rules.{rules}
 use native.Mathlib.Omega.{arith}
 use lib.IntN.{ℤ, pos, ◌+ℤ◌, ◌*ℤ◌}
 use lib.Signed.{mag, shr_z, mag_shr}

@@ -1,7 +1,6 @@
 -- `desk_order::listed::list_order` meets its contract: the room that it lends is as long as the mixes are many. Assumes nothing.
 use mathlib.Core.Path.{sym}
 use Prim.Native.Nat.{ℕ}
-use borrow.Author.Rules.{rules}
 use lib.ListN.{replicate}
 use lib.Seq.{length-take-le}
 use Rattle.desk_order.proofs.listed.list_order.Goals as goal

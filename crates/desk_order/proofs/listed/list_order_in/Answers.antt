@@ -3,8 +3,7 @@ use mathlib.Core.Path.{◌≡◌, ap, ◌∙◌}
 use mathlib.Core.List.{List}
 use Prim.Native.Nat.{ℕ, ◌≤◌}
 use native.Mathlib.Omega.{arith}
-use borrow.Author.Rules.{rules}
-use lib.ListN.{length, take}
+use lib.ListN.{length}
 use Rattle.desk_order.specs.DeskOrder.{mix_order}
 use Rattle.desk_order.specs.Laws.{mix_order_fits}
 use Rattle.desk_order.specs.Listed.{listed_of}

@@ -1,8 +1,7 @@
 -- `desk::lists_whole` meets its contract: the splitters' rows, then the destinations'. Assumes nothing.
-use mathlib.Core.Path.{sym, ◌∙◌}
+use mathlib.Core.Bool.{not}
+use mathlib.Core.Path.{sym, ◌∙◌, ap}
 use native.Mathlib.Omega.{arith}
-use borrow.Author.Rules.{rules}
-use borrow.Author.Tests.{not-true}
 use Rattle.row_tests.specs.Tests.{passes}
 use Rattle.row_tests.specs.Limits.{first_table}
 use Rattle.row_tests.specs.Desk.{lists_whole}
@@ -20,4 +19,4 @@ rows_within-requires-2 c = record { table = first_table _ _ (omega arith); w_in_
 
 pub returns : goal.returns
 unfolding lists_whole
-returns c = rw (passes c.rows_within.ensures c.if-not-rows_within.false-raw) c.rows_within-2.ensures
+returns c = rw (passes c.rows_within.ensures (ap not c.if-not-rows_within.false)) c.rows_within-2.ensures

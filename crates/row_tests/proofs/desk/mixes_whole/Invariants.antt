@@ -1,8 +1,7 @@
-use mathlib.Core.Path.{◌≡◌, ap, ◌∙◌}
+use mathlib.Core.Path.{◌≡◌}
 use Prim.Native.Nat.{ℕ, ◌-◌, ◌*◌, ◌≤◌}
-use native.Mathlib.Omega.{arith}
-use Rattle.row_tests.specs.Tests.{Passing, pass_begin, pass_more, pass_cut, pass_end, passes, sum_none, sum_more}
-use Rattle.row_tests.specs.Desk.{mix_whole, buffers_before, mixes_whole, mix_buffers_lem}
+use Rattle.row_tests.specs.Tests.{Passing}
+use Rattle.row_tests.specs.Desk.{mix_whole, buffers_before}
 use Rattle.row_tests.proofs.desk.mixes_whole.Given as goal
 
 abbrev pub invariant-loop-m : goal.invariant-loop-m

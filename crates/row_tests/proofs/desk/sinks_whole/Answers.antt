@@ -1,6 +1,5 @@
 -- `desk::sinks_whole` meets its contract: it is one test of all rows. Assumes nothing.
 use native.Mathlib.Omega.{arith}
-use borrow.Author.Rules.{rules}
 use Rattle.row_tests.specs.Desk.{sinks_whole, sink_table}
 use Rattle.row_tests.proofs.desk.sinks_whole.Goals as goal
 

@@ -1,8 +1,6 @@
 -- `limits::row_within` meets its contract: what is left of the table decides. Assumes nothing.
-use Prim.Native.Nat.{◌-◌}
 use native.Mathlib.Omega.{arith}
-use lib.ListN.{length}
-use Rattle.row_tests.specs.Limits.{Testing, testing, test_more, test_cut, test_end}
+use Rattle.row_tests.specs.Limits.{testing, test_more, test_cut, test_end}
 use Rattle.row_tests.proofs.limits.row_within.Goals as goal
 
 pub loop-k-init : goal.loop-k-init

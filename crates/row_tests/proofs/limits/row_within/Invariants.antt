@@ -1,7 +1,6 @@
 use Prim.Native.Nat.{◌-◌}
-use native.Mathlib.Omega.{arith}
 use lib.ListN.{length}
-use Rattle.row_tests.specs.Limits.{Testing, testing, test_more, test_cut, test_end}
+use Rattle.row_tests.specs.Limits.{Testing}
 use Rattle.row_tests.proofs.limits.row_within.Given as goal
 
 abbrev pub invariant-loop-k : goal.invariant-loop-k

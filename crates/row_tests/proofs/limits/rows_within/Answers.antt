@@ -1,9 +1,10 @@
 -- `limits::rows_within` meets its contract: each row is tested. Assumes nothing.
-use Prim.Native.Nat.{ℕ, ◌+◌, ◌-◌, ◌*◌}
+use mathlib.Core.Path.{ap}
+use mathlib.Core.Bool.{not}
 use native.Mathlib.Omega.{arith}
 use Rattle.rows.specs.Folds.{row_end}
-use Rattle.row_tests.specs.Tests.{Passing, pass_begin, pass_more, pass_cut, pass_end}
-use Rattle.row_tests.specs.Limits.{within, rows_within}
+use Rattle.row_tests.specs.Tests.{pass_begin, pass_more, pass_cut, pass_end}
+use Rattle.row_tests.specs.Limits.{rows_within}
 use Rattle.row_tests.proofs.limits.rows_within.Goals as goal
 
 pub loop-i-init : goal.loop-i-init
@@ -20,7 +21,7 @@ row_within-requires c = record { table = c.requires.table; w_in_bounds = omega (
 
 pub returns-then-not-row_within : goal.returns-then-not-row_within
 unfolding rows_within
-returns-then-not-row_within c = pass_cut c.loop-i.invariant c.loop-i-test.true c.row_within.ensures c.if-not-row_within.true-raw
+returns-then-not-row_within c = pass_cut c.loop-i.invariant c.loop-i-test.true c.row_within.ensures (ap not c.if-not-row_within.true)
 
 pub overflow_add-i : goal.overflow_add-i
 overflow_add-i c = omega arith
@@ -29,7 +30,7 @@ pub loop-i-smaller : goal.loop-i-smaller
 loop-i-smaller c = omega arith
 
 pub loop-i-preserved : goal.loop-i-preserved
-loop-i-preserved c = pass_more c.loop-i.invariant c.loop-i-test.true c.row_within.ensures c.if-not-row_within.false-raw
+loop-i-preserved c = pass_more c.loop-i.invariant c.loop-i-test.true c.row_within.ensures (ap not c.if-not-row_within.false)
 
 pub returns : goal.returns
 unfolding rows_within

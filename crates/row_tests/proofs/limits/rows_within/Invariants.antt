@@ -1,8 +1,6 @@
 use Prim.Native.Nat.{ℕ, ◌+◌, ◌-◌, ◌*◌}
-use native.Mathlib.Omega.{arith}
-use Rattle.rows.specs.Folds.{row_end}
-use Rattle.row_tests.specs.Tests.{Passing, pass_begin, pass_more, pass_cut, pass_end}
-use Rattle.row_tests.specs.Limits.{within, rows_within}
+use Rattle.row_tests.specs.Tests.{Passing}
+use Rattle.row_tests.specs.Limits.{within}
 use Rattle.row_tests.proofs.limits.rows_within.Given as goal
 
 abbrev pub invariant-loop-i : goal.invariant-loop-i

@@ -1,8 +1,9 @@
 -- `voices::voices_whole` meets its contract: each voice is tested. Assumes nothing.
-use Prim.Native.Nat.{◌-◌}
+use mathlib.Core.Path.{ap}
+use mathlib.Core.Bool.{not}
 use native.Mathlib.Omega.{arith}
-use Rattle.row_tests.specs.Tests.{Passing, pass_begin, pass_more, pass_cut, pass_end}
-use Rattle.row_tests.specs.Voices.{voice_whole, voices_whole}
+use Rattle.row_tests.specs.Tests.{pass_begin, pass_more, pass_cut, pass_end}
+use Rattle.row_tests.specs.Voices.{voices_whole}
 use Rattle.row_tests.proofs.voices.voices_whole.Goals as goal
 
 pub loop-i-init : goal.loop-i-init
@@ -13,10 +14,10 @@ voice_whole-requires c = record { room = c.requires; i_lt_n = c.loop-i-test.true
 
 pub returns-then-not-voice_whole : goal.returns-then-not-voice_whole
 unfolding voices_whole
-returns-then-not-voice_whole c = pass_cut c.loop-i.invariant c.loop-i-test.true c.voice_whole.ensures c.if-not-voice_whole.true-raw
+returns-then-not-voice_whole c = pass_cut c.loop-i.invariant c.loop-i-test.true c.voice_whole.ensures (ap not c.if-not-voice_whole.true)
 
 pub loop-i-preserved : goal.loop-i-preserved
-loop-i-preserved c = pass_more c.loop-i.invariant c.loop-i-test.true c.voice_whole.ensures c.if-not-voice_whole.false-raw
+loop-i-preserved c = pass_more c.loop-i.invariant c.loop-i-test.true c.voice_whole.ensures (ap not c.if-not-voice_whole.false)
 
 pub returns : goal.returns
 unfolding voices_whole

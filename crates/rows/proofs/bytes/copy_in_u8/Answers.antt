@@ -1,10 +1,7 @@
 -- `rows::bytes::copy_in_u8` meets its contract: `Copying` holds at each turn. Assumes nothing.
 use mathlib.Core.Path.{refl}
-use Prim.Native.Nat.{◌-◌}
 use native.Mathlib.Omega.{arith}
-use borrow.Author.Rules.{rules}
-use lib.ListN.{length}
-use Rattle.rows.proofs.Copying.{Copying, begin, more, end_in}
+use Rattle.rows.proofs.Copying.{begin, more, end_in}
 use Rattle.rows.proofs.bytes.copy_in_u8.Goals as goal
 
 pub loop-k-init : goal.loop-k-init

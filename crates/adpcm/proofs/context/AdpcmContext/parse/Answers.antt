@@ -1,6 +1,5 @@
 -- `adpcm::AdpcmContext::parse` meets its contract: each field is what its reader gives. Assumes nothing.
 use mathlib.Core.Path.{◌∙◌, ap}
-use borrow.Author.Rules.{rules}
 use mir.Syntax.{w16}
 use mir.Val.{to_z}
 use Rattle.adpcm.specs.Context.{context_of}
