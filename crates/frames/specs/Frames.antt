@@ -1,6 +1,6 @@
 -- The frames of a render (mixer.rs `write_sink`): those of the first used device sink, or zeros. Definitions only.
 -- A sink has 10 words (used, device, how many inputs, six inputs, downmix given) and 4 floats (the given factors).
-use Rattle.std.specs.Prelude.{◌≡◌, Bool, true, false, cond, not, ◌&&◌, List, ℕ, zero, suc, ◌+◌, ◌*◌, ◌≤◌, ◌<◌, eqb, ltb, length, get_or, replicate, Float}
+use Rattle.std.specs.Prelude.{◌≡◌, Bool, true, false, cond, not, ◌&&◌, List, ℕ, zero, suc, ◌+◌, ◌*◌, ◌≤◌, eqb, ltb, length, get_or, replicate, Float}
 use Rattle.std.specs.Float.{nan}
 use Rattle.floats.specs.Defs.{zero32}
 use Rattle.rows.specs.Rows.{part}

@@ -1,6 +1,6 @@
 -- A row sent to several rows of the mix buffers, each with gains of its own. Assumes nothing.
 use Rattle.std.specs.Prelude.{◌≡◌, refl, List, ℕ, zero, suc, ◌+◌, ◌≤◌, ◌<◌, get_or, Float}
-use Rattle.std.proofs.Common.{sym, ◌∙◌, add-one, arith}
+use Rattle.std.proofs.Common.{◌∙◌, add-one, arith}
 use Rattle.std.proofs.Math.Path.{ap}
 use Rattle.std.proofs.Math.ListN.{length}
 use Rattle.std.specs.Float.{nan, binary32}

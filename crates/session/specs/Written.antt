@@ -1,5 +1,5 @@
 -- Laws of text that is written piece by piece. Assumes nothing.
-use Rattle.std.specs.Prelude.{◌≡◌, refl, List, [], ◌++◌, ℕ, suc, ◌+◌, ◌-◌, ◌*◌, ◌≤◌, ◌<◌, length}
+use Rattle.std.specs.Prelude.{◌≡◌, refl, List, [], ◌++◌, ℕ, suc, ◌+◌, ◌*◌, ◌≤◌, ◌<◌, length}
 use Rattle.std.proofs.Common.{ap, sym, ◌∙◌, suc-mul, mul-le-mul_right, arith, length-append}
 use Rattle.rows.specs.Rows.{put, part, length_put, put_part, put_put}
 use Rattle.rows.specs.Tables.{joined, joined_more}

@@ -2,8 +2,8 @@
 -- Words: the parameters (10), then rows of voices (58), mixes (5), sinks (10), splitters (129) and destinations (2).
 -- Longs: the elapsed renders, then rows of voices (14). Floats: rows of voices (4), channel resources (48), mixes (577), sinks (4) and destinations (48).
 -- Contexts and history depend on sound, and nothing else does: rows of voices (3 and 18).
-use Rattle.std.specs.Prelude.{◌≡◌, List, ℕ, ◌+◌, ◌*◌, ◌≤◌, Float, length}
-use Rattle.rows.specs.Rows.{part, put}
+use Rattle.std.specs.Prelude.{◌≡◌, List, ℕ, ◌+◌, ◌*◌, Float, length}
+use Rattle.rows.specs.Rows.{part}
 use Rattle.params.specs.declared.params.Params.{Params}
 use Rattle.params.specs.Params.{params_of}
 use Rattle.state.specs.declared.Places.{Places}

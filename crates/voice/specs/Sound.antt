@@ -1,5 +1,5 @@
 -- The sound side of a voice: its ADPCM context and its history, three samples for each of six channels.
-use Rattle.std.specs.Prelude.{Bool, true, false, replicate, pos, Float}
+use Rattle.std.specs.Prelude.{Bool, true, false, replicate, pos}
 use Rattle.std.specs.Float.{fin}
 use Rattle.voice.specs.declared.sound.Sound.{Sound}
 

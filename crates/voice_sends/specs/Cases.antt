@@ -1,6 +1,6 @@
 -- What each test of a send decides. Assumes nothing.
-use Rattle.std.specs.Prelude.{◌≡◌, refl, true, false, ◌&&◌, List, ℕ, ◌%◌, ◌≤◌, ◌<◌, Float}
-use Rattle.std.proofs.Common.{ap, ◌∙◌}
+use Rattle.std.specs.Prelude.{◌≡◌, true, false, List, ℕ, ◌%◌, ◌≤◌, ◌<◌, Float}
+use Rattle.std.proofs.Common.{ap}
 use borrow.Author.Tests.{lt-ltb, le-ltb, eq-eqb, ne_eqb}
 use Rattle.desk_rows.specs.DeskRows.{mix_buffers, mix_offset, list_entry, destination_mix, configured_of}
 use Rattle.voice_sends.specs.Sending.{Passing, passing, sent, mix_sends, to_mix, destination_sent, entry_sent, splitter_sends, by_splitter, Sent, with_resources, with_destinations, sends_of}

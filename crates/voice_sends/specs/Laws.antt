@@ -1,14 +1,14 @@
 -- Lengths that a ramp and a row of gains that is taken keep, and a destination that is configured. Assumes nothing.
-use Rattle.std.specs.Prelude.{◌≡◌, Bool, true, false, cond, ◌&&◌, ℕ, ◌+◌, ◌*◌, ◌≤◌, ◌<◌, ltb, eqb, get_or, Float}
+use Rattle.std.specs.Prelude.{◌≡◌, Bool, true, false, ◌&&◌, ℕ, ◌+◌, ◌*◌, ◌≤◌, ◌<◌, ltb, get_or, Float}
 use Rattle.std.proofs.Math.Path.{refl}
-use Rattle.std.proofs.Common.{sym, ap, ◌∙◌, arith, ltb-true}
+use Rattle.std.proofs.Common.{sym, ◌∙◌, arith, ltb-true}
 use mathlib.Core.List.{List}
 use Rattle.std.proofs.Math.ListN.{length}
-use Rattle.rows.specs.Rows.{put, part, length_put, length_part}
-use Rattle.rows.specs.Folds.{up_to, row_fits}
+use Rattle.rows.specs.Rows.{part, length_put, length_part}
+use Rattle.rows.specs.Folds.{row_fits}
 use Rattle.gain.specs.Gain.{ramp_of}
 use Rattle.gain.specs.Laws.{length_ramp}
-use Rattle.desk_rows.specs.DeskRows.{configured_of, destination_mix}
+use Rattle.desk_rows.specs.DeskRows.{configured_of}
 use Rattle.voice_sends.specs.Sending.{Ids, ramped_row, ramped_rows, taken, taken_over}
 use Rattle.rows.specs.Loops.{up_to_keeps}
 

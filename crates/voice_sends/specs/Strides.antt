@@ -1,5 +1,5 @@
 -- A loop that takes only each w-th of n steps, from step c on, where the other steps do nothing: `skip(c).step_by(w)`. Assumes nothing.
-use Rattle.std.specs.Prelude.{◌≡◌, refl}
+use Rattle.std.specs.Prelude.{◌≡◌}
 use Rattle.std.proofs.Common.{sym, ap, subst, ◌∙◌, div-add-mod', mul-le-mul_right, suc-mul, lt_of_not-le, arith}
 use Prim.Native.Nat.{ℕ, zero, suc, ◌+◌, ◌-◌, ◌*◌, ◌/◌, ◌%◌, ◌≤◌, ◌<◌}
 use Rattle.std.proofs.Math.Nat.{mod-eq_of_lt, add-mod_right, add-suc, add-zero}

@@ -1,5 +1,4 @@
 -- `frames::downmix` meets its contract by its test. Assumes nothing.
-use borrow.Author.Rules.{rules}
 use borrow.Author.Tests.{eq-eqb, ne_eqb}
 use Rattle.frames.specs.Frames.{downmix_at, downmix_of}
 use Rattle.frames.proofs.downmix.Goals as goal

@@ -1,8 +1,7 @@
 -- `frames::first` meets its contract: what is left of the search is the whole. Assumes nothing.
-use mathlib.Core.Path.{◌≡◌, ap, sym, ◌∙◌}
-use Prim.Native.Nat.{ℕ, ◌-◌, ◌≤◌}
+use mathlib.Core.Path.{ap, sym, ◌∙◌}
+use Prim.Native.Nat.{ℕ}
 use native.Mathlib.Omega.{arith}
-use borrow.Author.Rules.{rules}
 use Rattle.frames.specs.Frames.{first_from}
 use Rattle.frames.specs.Laws.{found, passed, none_left}
 use Rattle.frames.proofs.first.Goals as goal

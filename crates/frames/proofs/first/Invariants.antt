@@ -1,9 +1,6 @@
-use mathlib.Core.Path.{◌≡◌, ap, sym, ◌∙◌}
-use Prim.Native.Nat.{ℕ, ◌-◌, ◌≤◌}
-use native.Mathlib.Omega.{arith}
-use borrow.Author.Rules.{rules}
+use mathlib.Core.Path.{◌≡◌}
+use Prim.Native.Nat.{◌-◌, ◌≤◌}
 use Rattle.frames.specs.Frames.{first_from}
-use Rattle.frames.specs.Laws.{found, passed, none_left}
 use Rattle.frames.proofs.first.Given as goal
 
 abbrev pub invariant-loop-k : goal.invariant-loop-k

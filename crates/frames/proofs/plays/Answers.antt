@@ -1,5 +1,4 @@
 -- `frames::plays` meets its contract: each way out is a case of the two tests. Assumes nothing.
-use borrow.Author.Rules.{rules}
 use Rattle.frames.specs.Laws.{not_in_use, by_device, in_use_device}
 use Rattle.frames.proofs.plays.Goals as goal
 

@@ -2,9 +2,7 @@
 use mathlib.Core.Path.{◌∙◌}
 use mathlib.Core.List.{◌++◌}
 use Prim.Native.Nat.{◌+◌, ◌*◌}
-use native.Mathlib.Omega.{arith}
 use lib.ListN.{drop, get_or}
-use borrow.Author.Rules.{rules}
 use Rattle.sink.specs.Sink.{sink_of}
 use Rattle.frames.specs.Frames.{sink_at}
 use Rattle.frames.proofs.write_row.Goals as goal

@@ -5,7 +5,6 @@ use Prim.Native.Nat.{◌*◌}
 use native.Mathlib.Omega.{arith}
 use lib.ListN.{drop}
 use lib.Ieee.{Float}
-use borrow.Author.Rules.{rules}
 use Rattle.frames.specs.Laws.{frames_some, frames_none}
 use Rattle.frames.proofs.write_sink.Goals as goal
 

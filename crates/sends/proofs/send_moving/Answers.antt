@@ -1,9 +1,7 @@
 -- `sends::send_moving` meets its contract: `Spreading` holds at each turn. Assumes nothing.
 use mathlib.Core.Path.{refl}
-use Prim.Native.Nat.{◌-◌}
 use native.Mathlib.Omega.{arith}
-use borrow.Author.Rules.{rules}
-use Rattle.sends.specs.Sends.{Spreading, gain_at, spread_begin, spread_more, spread_end}
+use Rattle.sends.specs.Sends.{spread_begin, spread_more, spread_end}
 use Rattle.sends.proofs.send_moving.Goals as goal
 
 pub loop-j-init : goal.loop-j-init

@@ -1,8 +1,5 @@
-use mathlib.Core.Path.{refl}
 use Prim.Native.Nat.{◌-◌}
-use native.Mathlib.Omega.{arith}
-use borrow.Author.Rules.{rules}
-use Rattle.sends.specs.Sends.{Spreading, gain_at, spread_begin, spread_more, spread_end}
+use Rattle.sends.specs.Sends.{Spreading, gain_at}
 use Rattle.sends.proofs.send_moving.Given as goal
 
 abbrev pub invariant-loop-j : goal.invariant-loop-j

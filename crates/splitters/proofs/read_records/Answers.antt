@@ -1,5 +1,4 @@
 -- `splitters::read_records` meets its contract: what each call leaves, the next one takes. Assumes nothing.
-use borrow.Author.Rules.{rules}
 use Rattle.splitters.proofs.InTurn.{in_turn}
 use Rattle.splitters.proofs.read_records.Goals as goal
 

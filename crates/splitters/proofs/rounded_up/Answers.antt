@@ -1,7 +1,6 @@
 -- `splitters::rounded_up` meets its contract. Assumes nothing.
 use mathlib.Core.Path.{refl}
 use native.Mathlib.Omega.{arith}
-use borrow.Author.Rules.{rules}
 use Rattle.splitters.specs.Section.{rounded_up}
 use Rattle.splitters.proofs.rounded_up.Goals as goal
 

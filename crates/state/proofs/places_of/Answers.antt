@@ -1,6 +1,5 @@
 -- `state::places_of` meets its contract: each place is a sum. Assumes nothing.
 use mathlib.Core.Path.{refl}
-use borrow.Author.Rules.{rules}
 use Rattle.state.specs.State.{places_of}
 use Rattle.state.proofs.places_of.Goals as goal
 

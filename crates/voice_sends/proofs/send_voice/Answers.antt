@@ -1,5 +1,4 @@
 -- `voice_sends::send_voice` meets its contract: it goes by its mix, or by its splitter. Assumes nothing.
-use borrow.Author.Rules.{rules}
 use Rattle.voice_sends.specs.Sending.{sent_of}
 use Rattle.voice_sends.specs.Cases.{sends_by_splitter, sends_to_mix}
 use Rattle.voice_sends.proofs.send_voice.Goals as goal

@@ -1,5 +1,4 @@
 -- `channels::channel_record` meets its contract. Assumes nothing.
-use borrow.Author.Rules.{rules}
 use Rattle.desk.specs.Channels.{channel_record, channel_step}
 use Rattle.desk.proofs.channels.channel_record.Goals as goal
 

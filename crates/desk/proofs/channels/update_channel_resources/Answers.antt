@@ -1,13 +1,7 @@
 -- `channels::update_channel_resources` meets its contract: after k turns, k steps are taken. Assumes nothing.
-use mathlib.Core.Path.{◌≡◌}
-use mathlib.Core.List.{List}
-use Prim.Native.Nat.{◌-◌, ◌*◌}
 use native.Mathlib.Omega.{arith}
-use borrow.Author.Rules.{rules}
-use lib.ListN.{length}
-use lib.Ieee.{Float}
-use Rattle.rows.specs.Loops.{Turning, turn_begin, turn_more, turn_end}
-use Rattle.desk.specs.Channels.{channel_step, channels_of, step_long}
+use Rattle.rows.specs.Loops.{turn_begin, turn_more, turn_end}
+use Rattle.desk.specs.Channels.{channels_of, step_long}
 use Rattle.desk.proofs.channels.update_channel_resources.Goals as goal
 
 pub loop-k-init : goal.loop-k-init

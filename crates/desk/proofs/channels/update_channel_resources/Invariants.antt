@@ -1,12 +1,10 @@
 use mathlib.Core.Path.{◌≡◌}
 use mathlib.Core.List.{List}
 use Prim.Native.Nat.{◌-◌, ◌*◌}
-use native.Mathlib.Omega.{arith}
-use borrow.Author.Rules.{rules}
 use lib.ListN.{length}
 use lib.Ieee.{Float}
-use Rattle.rows.specs.Loops.{Turning, turn_begin, turn_more, turn_end}
-use Rattle.desk.specs.Channels.{channel_step, channels_of, step_long}
+use Rattle.rows.specs.Loops.{Turning}
+use Rattle.desk.specs.Channels.{channel_step}
 use Rattle.desk.proofs.channels.update_channel_resources.Given as goal
 
 abbrev pub invariant-loop-k : goal.invariant-loop-k

@@ -1,8 +1,6 @@
 -- `records::put_floats` meets its contract: `Tabling` holds at each turn. Assumes nothing.
-use Prim.Native.Nat.{◌-◌}
 use native.Mathlib.Omega.{arith}
-use borrow.Author.Rules.{rules}
-use Rattle.rows.specs.Tables.{Tabling, table_begin, table_step, table_end}
+use Rattle.rows.specs.Tables.{table_begin, table_step, table_end}
 use Rattle.desk.specs.Records.{float_at}
 use Rattle.desk.proofs.records.put_floats.Goals as goal
 

@@ -1,5 +1,4 @@
 -- `sinks::put_device` meets its contract. Assumes nothing.
-use borrow.Author.Rules.{rules}
 use Rattle.desk.specs.Sinks.{device_row}
 use Rattle.desk.proofs.sinks.put_device.Goals as goal
 

@@ -1,6 +1,5 @@
 -- `sinks::put_sink` meets its contract. Assumes nothing.
 use mathlib.Core.Path.{refl}
-use borrow.Author.Rules.{rules}
 use Rattle.desk.proofs.SinkRow.{device, other, is_device_lem, no_device}
 use Rattle.desk.proofs.sinks.put_sink.Goals as goal
 

@@ -1,5 +1,4 @@
 -- `sinks::sink_record` meets its contract. Assumes nothing.
-use borrow.Author.Rules.{rules}
 use Rattle.desk.specs.Sinks.{sink_record, sink_step}
 use Rattle.desk.proofs.sinks.sink_record.Goals as goal
 

@@ -1,11 +1,9 @@
 -- `sinks::update_sinks` meets its contract: after k turns, k steps are taken. Assumes nothing.
 use mathlib.Core.Path.{ap}
-use Prim.Native.Nat.{◌-◌}
 use native.Mathlib.Omega.{arith}
-use borrow.Author.Rules.{rules}
-use Rattle.rows.specs.Loops.{Turning, turn_begin, turn_more, turn_end}
-use Rattle.desk.specs.Sinks.{SinkRows, sink_rows, sink_step, sinks_of}
-use Rattle.desk.specs.SinkLaws.{Sized, step_sized}
+use Rattle.rows.specs.Loops.{turn_begin, turn_more, turn_end}
+use Rattle.desk.specs.Sinks.{SinkRows, sinks_of}
+use Rattle.desk.specs.SinkLaws.{step_sized}
 use Rattle.desk.proofs.sinks.update_sinks.Goals as goal
 
 pub loop-k-init : goal.loop-k-init

@@ -1,10 +1,7 @@
-use mathlib.Core.Path.{ap}
 use Prim.Native.Nat.{◌-◌}
-use native.Mathlib.Omega.{arith}
-use borrow.Author.Rules.{rules}
-use Rattle.rows.specs.Loops.{Turning, turn_begin, turn_more, turn_end}
-use Rattle.desk.specs.Sinks.{SinkRows, sink_rows, sink_step, sinks_of}
-use Rattle.desk.specs.SinkLaws.{Sized, step_sized}
+use Rattle.rows.specs.Loops.{Turning}
+use Rattle.desk.specs.Sinks.{sink_rows, sink_step}
+use Rattle.desk.specs.SinkLaws.{Sized}
 use Rattle.desk.proofs.sinks.update_sinks.Given as goal
 
 abbrev pub invariant-loop-k : goal.invariant-loop-k

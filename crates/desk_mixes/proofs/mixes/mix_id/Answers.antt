@@ -1,6 +1,5 @@
 -- `mixes::mix_id` meets its contract. Assumes nothing.
 use mathlib.Core.Path.{ap, ◌∙◌}
-use borrow.Author.Rules.{rules}
 use Rattle.fields.specs.Fields.{positive}
 use Rattle.desk_mixes.specs.Mixes.{mix_id}
 use Rattle.desk_mixes.proofs.mixes.mix_id.Goals as goal

@@ -1,6 +1,5 @@
 -- `mixes::mix_record` meets its contract: the record is inside, and its mix's rows are put. Assumes nothing.
 use native.Mathlib.Omega.{arith}
-use borrow.Author.Rules.{rules}
 use Rattle.desk_mixes.specs.MixLaws.{mix_inside}
 use Rattle.desk_mixes.proofs.MixRow.{record_is, acts, stays}
 use Rattle.desk_mixes.proofs.mixes.mix_record.Goals as goal

@@ -1,10 +1,8 @@
 -- `mixes::mix_records` meets its contract: after i turns, i steps are taken. Assumes nothing.
-use Prim.Native.Nat.{◌-◌}
 use native.Mathlib.Omega.{arith}
-use borrow.Author.Rules.{rules}
-use Rattle.rows.specs.Loops.{Turning, turn_begin, turn_more, turn_end}
-use Rattle.desk_mixes.specs.Mixes.{mix_rows, mix_step, mix_records}
-use Rattle.desk_mixes.specs.MixLaws.{Sized, step_sized}
+use Rattle.rows.specs.Loops.{turn_begin, turn_more, turn_end}
+use Rattle.desk_mixes.specs.Mixes.{mix_records}
+use Rattle.desk_mixes.specs.MixLaws.{step_sized}
 use Rattle.desk_mixes.proofs.mixes.mix_records.Goals as goal
 
 pub loop-i-init : goal.loop-i-init

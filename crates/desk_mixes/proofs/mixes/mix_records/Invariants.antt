@@ -1,9 +1,7 @@
 use Prim.Native.Nat.{◌-◌}
-use native.Mathlib.Omega.{arith}
-use borrow.Author.Rules.{rules}
-use Rattle.rows.specs.Loops.{Turning, turn_begin, turn_more, turn_end}
-use Rattle.desk_mixes.specs.Mixes.{mix_rows, mix_step, mix_records}
-use Rattle.desk_mixes.specs.MixLaws.{Sized, step_sized}
+use Rattle.rows.specs.Loops.{Turning}
+use Rattle.desk_mixes.specs.Mixes.{mix_rows, mix_step}
+use Rattle.desk_mixes.specs.MixLaws.{Sized}
 use Rattle.desk_mixes.proofs.mixes.mix_records.Given as goal
 
 abbrev pub invariant-loop-i : goal.invariant-loop-i

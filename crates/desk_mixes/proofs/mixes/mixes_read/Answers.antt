@@ -1,6 +1,5 @@
 -- `mixes::mixes_read` meets its contract. Assumes nothing.
 use native.Mathlib.Omega.{arith}
-use borrow.Author.Rules.{rules}
 use Rattle.desk_mixes.specs.Mixes.{mix_base, mix_count, mixes_read}
 use Rattle.desk_mixes.proofs.mixes.mixes_read.Goals as goal
 

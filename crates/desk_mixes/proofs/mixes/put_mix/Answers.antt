@@ -1,6 +1,5 @@
 -- `mixes::put_mix` meets its contract. Assumes nothing.
 use mathlib.Core.Path.{refl, sym, ◌∙◌}
-use borrow.Author.Rules.{rules}
 use Rattle.desk_mixes.proofs.MixRow.{used, unused}
 use Rattle.desk_mixes.proofs.mixes.put_mix.Goals as goal
 

@@ -1,7 +1,5 @@
 -- `mixes::put_volumes` meets its contract. Assumes nothing.
-use mathlib.Core.Path.{◌∙◌}
 use native.Mathlib.Omega.{arith}
-use borrow.Author.Rules.{rules}
 use lib.ListN.{length-set}
 use Rattle.desk.specs.Records.{float_at}
 use Rattle.desk_mixes.proofs.MixRow.{volumes}

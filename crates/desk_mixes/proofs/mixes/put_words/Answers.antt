@@ -1,5 +1,4 @@
 -- `mixes::put_words` meets its contract. Assumes nothing.
-use borrow.Author.Rules.{rules}
 use Rattle.desk_mixes.specs.Mixes.{mix_head}
 use Rattle.desk_mixes.proofs.mixes.put_words.Goals as goal
 

@@ -1,7 +1,6 @@
 -- `mixes::update_mixes` meets its contract: the records leave the mixes sized, and then come the offsets. Assumes nothing.
 use mathlib.Core.Path.{ap, ◌∙◌}
 use mathlib.Core.Bool.{Bool}
-use borrow.Author.Rules.{rules}
 use Rattle.desk_mixes.specs.Mixes.{MixRows, mix_rows, mix_records, offsets_of, mixes_of}
 use Rattle.desk_mixes.specs.MixLaws.{same_sized, records_sized}
 use Rattle.desk_mixes.proofs.mixes.update_mixes.Goals as goal

@@ -1,9 +1,6 @@
 -- `offsets::mix_offsets` meets its contract: `Summing` holds at each turn. Assumes nothing.
-use Prim.Native.Nat.{◌-◌}
 use native.Mathlib.Omega.{arith}
-use borrow.Author.Rules.{rules}
-use lib.ListN.{length-set}
-use Rattle.desk_mixes.proofs.Summing.{Summing, begin, below, more, end}
+use Rattle.desk_mixes.proofs.Summing.{begin, below, more, end}
 use Rattle.desk_mixes.proofs.offsets.mix_offsets.Goals as goal
 
 pub loop-k-init : goal.loop-k-init

@@ -1,8 +1,5 @@
 use Prim.Native.Nat.{◌-◌}
-use native.Mathlib.Omega.{arith}
-use borrow.Author.Rules.{rules}
-use lib.ListN.{length-set}
-use Rattle.desk_mixes.proofs.Summing.{Summing, begin, below, more, end}
+use Rattle.desk_mixes.proofs.Summing.{Summing}
 use Rattle.desk_mixes.proofs.offsets.mix_offsets.Given as goal
 
 abbrev pub invariant-loop-k : goal.invariant-loop-k

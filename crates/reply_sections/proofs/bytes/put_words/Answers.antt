@@ -1,12 +1,8 @@
 -- `put_words` meets its contract: a row of four bytes is put at each turn. Assumes nothing.
-use Prim.Native.Nat.{ℕ, ◌-◌}
 use native.Mathlib.Omega.{arith}
-use lib.ListN.{length, get_or}
-use Rattle.rows.specs.Tables.{Joining, join_begin, join_room, join_step, join_end}
-use Rattle.fields.specs.Fields.{bytes_of}
+use Rattle.rows.specs.Tables.{join_begin, join_room, join_step, join_end}
 use Rattle.fields.specs.Writes.{length_bytes}
 use Rattle.reply_sections.specs.Bytes.{words_bytes}
-use borrow.Author.Rules.{rules}
 use Rattle.reply_sections.proofs.bytes.put_words.Goals as goal
 
 pub loop-k-init : goal.loop-k-init

@@ -1,11 +1,7 @@
 use Prim.Native.Nat.{ℕ, ◌-◌}
-use native.Mathlib.Omega.{arith}
 use lib.ListN.{length, get_or}
-use Rattle.rows.specs.Tables.{Joining, join_begin, join_room, join_step, join_end}
+use Rattle.rows.specs.Tables.{Joining}
 use Rattle.fields.specs.Fields.{bytes_of}
-use Rattle.fields.specs.Writes.{length_bytes}
-use Rattle.reply_sections.specs.Bytes.{words_bytes}
-use borrow.Author.Rules.{rules}
 use Rattle.reply_sections.proofs.bytes.put_words.Given as goal
 
 abbrev pub invariant-loop-k : goal.invariant-loop-k

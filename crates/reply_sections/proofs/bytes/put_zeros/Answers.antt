@@ -1,11 +1,9 @@
 -- `put_zeros` meets its contract: a table of zeros is stored. Assumes nothing.
 use mathlib.Core.Path.{refl, ap, ◌∙◌}
-use Prim.Native.Nat.{ℕ, ◌-◌}
 use native.Mathlib.Omega.{arith}
 use Rattle.rows.specs.Rows.{put}
-use Rattle.rows.specs.Tables.{Tabling, table_begin, table_step, table_end}
+use Rattle.rows.specs.Tables.{table_begin, table_step, table_end}
 use Rattle.reply_sections.specs.Bytes.{table_zeros}
-use borrow.Author.Rules.{rules}
 use Rattle.reply_sections.proofs.bytes.put_zeros.Goals as goal
 
 pub loop-k-init : goal.loop-k-init

@@ -1,10 +1,5 @@
-use mathlib.Core.Path.{refl, ap, ◌∙◌}
 use Prim.Native.Nat.{ℕ, ◌-◌}
-use native.Mathlib.Omega.{arith}
-use Rattle.rows.specs.Rows.{put}
-use Rattle.rows.specs.Tables.{Tabling, table_begin, table_step, table_end}
-use Rattle.reply_sections.specs.Bytes.{table_zeros}
-use borrow.Author.Rules.{rules}
+use Rattle.rows.specs.Tables.{Tabling}
 use Rattle.reply_sections.proofs.bytes.put_zeros.Given as goal
 
 abbrev pub invariant-loop-k : goal.invariant-loop-k

@@ -1,7 +1,6 @@
 -- `effect_state` meets its contract: by the byte. Assumes nothing.
 use mathlib.Core.Path.{◌∙◌, sym}
 use Rattle.reply_sections.specs.Effects.{effect_on, effect_off}
-use borrow.Author.Rules.{rules}
 use Rattle.reply_sections.proofs.effects.effect_state.Goals as goal
 
 pub returns-then-byte_at-ne0 : goal.returns-then-byte_at-ne0

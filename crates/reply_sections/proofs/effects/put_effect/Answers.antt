@@ -7,7 +7,6 @@ use lib.ListN.{length-set}
 use Rattle.rows.specs.Rows.{put, put_one, put_more}
 use Rattle.reply_sections.specs.Bytes.{zeros, length_zeros, put_none}
 use Rattle.reply_sections.specs.Effects.{effect_none, effect_some}
-use borrow.Author.Rules.{rules}
 use Rattle.reply_sections.proofs.effects.put_effect.Goals as goal
 
 pub returns-then-w-eq0 : goal.returns-then-w-eq0

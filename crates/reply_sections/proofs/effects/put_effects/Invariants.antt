@@ -1,11 +1,6 @@
-use mathlib.Core.Path.{ap, ◌∙◌}
-use Prim.Native.Nat.{ℕ, ◌+◌, ◌-◌, ◌*◌, ◌^◌, ◌≤◌, ◌<◌}
-use native.Mathlib.Omega.{arith}
-use lib.ListN.{length}
-use Rattle.rows.specs.Rows.{put}
-use Rattle.rows.specs.Tables.{Joining, join_begin, join_room, join_step, join_end}
-use Rattle.reply_sections.specs.Effects.{effect_row, effect_at, length_effect_at, share_small}
-use borrow.Author.Rules.{rules}
+use Prim.Native.Nat.{◌-◌}
+use Rattle.rows.specs.Tables.{Joining}
+use Rattle.reply_sections.specs.Effects.{effect_at}
 use Rattle.reply_sections.proofs.effects.put_effects.Given as goal
 
 abbrev pub invariant-loop-i : goal.invariant-loop-i

@@ -6,7 +6,6 @@ use lib.ListN.{length}
 use Rattle.rows.specs.Rows.{put}
 use Rattle.reply_sections.specs.Bytes.{put_none}
 use Rattle.reply_sections.specs.Effects.{effect_rows, effects_nil}
-use borrow.Author.Rules.{rules}
 use Rattle.reply_sections.proofs.effects.write_effects.Goals as goal
 
 pub returns-then-n-eq0 : goal.returns-then-n-eq0

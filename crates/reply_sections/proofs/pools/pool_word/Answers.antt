@@ -1,7 +1,6 @@
 -- `pool_word` meets its contract: by whether the record begins within the section. Assumes nothing.
 use mathlib.Core.Path.{sym, ◌∙◌}
 use Rattle.reply_sections.specs.Pools.{pool_in, pool_out}
-use borrow.Author.Rules.{rules}
 use Rattle.reply_sections.proofs.pools.pool_word.Goals as goal
 
 pub returns-then-i-size : goal.returns-then-i-size

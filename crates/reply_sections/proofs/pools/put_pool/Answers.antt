@@ -6,7 +6,6 @@ use Rattle.rows.specs.Rows.{put}
 use Rattle.fields.specs.Fields.{bytes_of}
 use Rattle.reply_sections.specs.Bytes.{put_padded}
 use Rattle.reply_sections.specs.Pools.{granted, pool_row}
-use borrow.Author.Rules.{rules}
 use Rattle.reply_sections.proofs.pools.put_pool.Goals as goal
 
 pub returns : goal.returns

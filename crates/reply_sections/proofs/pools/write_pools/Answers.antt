@@ -1,9 +1,7 @@
 -- `write_pools` meets its contract: a pool is put at each turn. Assumes nothing.
-use Prim.Native.Nat.{◌-◌}
 use native.Mathlib.Omega.{arith}
-use Rattle.rows.specs.Tables.{Joining, join_begin, join_room, join_step, join_end}
-use Rattle.reply_sections.specs.Pools.{pool_row, pools_bytes, length_pool}
-use borrow.Author.Rules.{rules}
+use Rattle.rows.specs.Tables.{join_begin, join_room, join_step, join_end}
+use Rattle.reply_sections.specs.Pools.{pools_bytes, length_pool}
 use Rattle.reply_sections.proofs.pools.write_pools.Goals as goal
 
 pub loop-i-init : goal.loop-i-init

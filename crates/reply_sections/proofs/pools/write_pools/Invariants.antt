@@ -1,8 +1,6 @@
 use Prim.Native.Nat.{◌-◌}
-use native.Mathlib.Omega.{arith}
-use Rattle.rows.specs.Tables.{Joining, join_begin, join_room, join_step, join_end}
-use Rattle.reply_sections.specs.Pools.{pool_row, pools_bytes, length_pool}
-use borrow.Author.Rules.{rules}
+use Rattle.rows.specs.Tables.{Joining}
+use Rattle.reply_sections.specs.Pools.{pool_row}
 use Rattle.reply_sections.proofs.pools.write_pools.Given as goal
 
 abbrev pub invariant-loop-i : goal.invariant-loop-i

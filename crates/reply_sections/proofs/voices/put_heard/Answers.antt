@@ -7,7 +7,6 @@ use Rattle.fields.specs.Fields.{bytes_of}
 use Rattle.fields.specs.Writes.{length_bytes}
 use Rattle.reply_sections.specs.Bytes.{zeros, length_zeros}
 use Rattle.reply_sections.specs.Voices.{heard_of}
-use borrow.Author.Rules.{rules}
 use Rattle.reply_sections.proofs.voices.put_heard.Goals as goal
 
 pub returns : goal.returns

@@ -2,7 +2,6 @@
 use mathlib.Core.Path.{ap, sym, ◌∙◌}
 use Rattle.rows.specs.Rows.{put}
 use Rattle.reply_sections.specs.Voices.{status_unused, status_fresh, status_heard}
-use borrow.Author.Rules.{rules}
 use Rattle.reply_sections.proofs.voices.put_status.Goals as goal
 
 pub returns-then-used-eq0 : goal.returns-then-used-eq0

@@ -1,9 +1,7 @@
 -- `write_voices` meets its contract: a status is put at each turn. Assumes nothing.
-use Prim.Native.Nat.{◌-◌}
 use native.Mathlib.Omega.{arith}
-use Rattle.rows.specs.Tables.{Joining, join_begin, join_room, join_step, join_end}
-use Rattle.reply_sections.specs.Voices.{status_at, voices_bytes, length_status_at}
-use borrow.Author.Rules.{rules}
+use Rattle.rows.specs.Tables.{join_begin, join_room, join_step, join_end}
+use Rattle.reply_sections.specs.Voices.{voices_bytes, length_status_at}
 use Rattle.reply_sections.proofs.voices.write_voices.Goals as goal
 
 pub loop-i-init : goal.loop-i-init

@@ -1,5 +1,4 @@
 -- `session::digit` meets its contract. Assumes nothing.
-use borrow.Author.Rules.{rules}
 use borrow.Author.Tests.{le-ltb, lt-ltb}
 use Rattle.session.proofs.digits.digit.Goals as goal
 

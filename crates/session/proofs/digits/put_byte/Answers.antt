@@ -1,7 +1,6 @@
 -- `session::put_byte` meets its contract: a piece of one byte. Assumes nothing.
 use mathlib.Core.Path.{refl}
 use native.Mathlib.Omega.{arith}
-use borrow.Author.Rules.{rules}
 use Rattle.rows.specs.Rows.{put_one}
 use Rattle.session.specs.Written.{appended}
 use Rattle.session.proofs.digits.put_byte.Goals as goal

@@ -1,11 +1,9 @@
 -- `session::put_bytes` meets its contract: a byte is put at each turn. Assumes nothing.
 use mathlib.Core.Path.{refl, ap, ◌∙◌}
-use Prim.Native.Nat.{ℕ, ◌+◌, ◌-◌}
+use Prim.Native.Nat.{ℕ, ◌+◌}
 use native.Mathlib.Omega.{arith}
-use borrow.Author.Rules.{rules}
-use lib.ListN.{length, get_or}
 use Rattle.rows.specs.Rows.{put}
-use Rattle.rows.specs.Tables.{Tabling, table_begin, table_step, table_end}
+use Rattle.rows.specs.Tables.{table_begin, table_step, table_end}
 use Rattle.session.specs.Written.{appended}
 use Rattle.session.specs.Words.{table_all}
 use Rattle.session.proofs.digits.put_bytes.Goals as goal

@@ -1,12 +1,6 @@
-use mathlib.Core.Path.{refl, ap, ◌∙◌}
-use Prim.Native.Nat.{ℕ, ◌+◌, ◌-◌}
-use native.Mathlib.Omega.{arith}
-use borrow.Author.Rules.{rules}
+use Prim.Native.Nat.{◌-◌}
 use lib.ListN.{length, get_or}
-use Rattle.rows.specs.Rows.{put}
-use Rattle.rows.specs.Tables.{Tabling, table_begin, table_step, table_end}
-use Rattle.session.specs.Written.{appended}
-use Rattle.session.specs.Words.{table_all}
+use Rattle.rows.specs.Tables.{Tabling}
 use Rattle.session.proofs.digits.put_bytes.Given as goal
 
 abbrev pub invariant-loop-k : goal.invariant-loop-k

@@ -1,7 +1,6 @@
 -- `session::put_decimal` meets its contract: as many digits in base 10 as the number has. Assumes nothing.
 use mathlib.Core.Path.{sym, ap, ◌∙◌}
 use Prim.Native.Nat.{ℕ, ◌+◌}
-use borrow.Author.Rules.{rules}
 use Rattle.rows.specs.Rows.{put}
 use Rattle.session.specs.Text.{digits_of, places_of, decimal_of}
 use Rattle.session.specs.Digits.{length_digits}

@@ -1,8 +1,7 @@
 -- `session::put_digits` meets its contract: `Spelling` holds at each turn. Assumes nothing.
 use native.Mathlib.Omega.{arith}
 use native.Mathlib.Nat.{mod-lt}
-use borrow.Author.Rules.{rules}
-use Rattle.session.specs.Digits.{Spelling, spell_begin, spell_more, spell_end}
+use Rattle.session.specs.Digits.{spell_begin, spell_more, spell_end}
 use Rattle.session.proofs.digits.put_digits.Goals as goal
 
 pub loop-i-init : goal.loop-i-init

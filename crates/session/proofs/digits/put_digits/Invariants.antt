@@ -1,7 +1,4 @@
-use native.Mathlib.Omega.{arith}
-use native.Mathlib.Nat.{mod-lt}
-use borrow.Author.Rules.{rules}
-use Rattle.session.specs.Digits.{Spelling, spell_begin, spell_more, spell_end}
+use Rattle.session.specs.Digits.{Spelling}
 use Rattle.session.proofs.digits.put_digits.Given as goal
 
 abbrev pub invariant-loop-i : goal.invariant-loop-i

@@ -1,7 +1,6 @@
 -- `session::put_hex` meets its contract: digits in base 16. Assumes nothing.
 use mathlib.Core.Path.{sym, ap}
 use Prim.Native.Nat.{ℕ, ◌+◌}
-use borrow.Author.Rules.{rules}
 use Rattle.session.specs.Text.{hex_of}
 use Rattle.session.specs.Digits.{length_hex}
 use Rattle.session.specs.Written.{appended}

@@ -1,7 +1,6 @@
 -- `session::call_count` meets its contract: the field behind the memory. Assumes nothing.
 use mathlib.Core.Path.{ap, ◌∙◌}
 use Prim.Native.Nat.{ℕ, ◌+◌}
-use borrow.Author.Rules.{rules}
 use Rattle.fields.specs.Fields.{field_at}
 use Rattle.session.proofs.input.call_count.Goals as goal
 

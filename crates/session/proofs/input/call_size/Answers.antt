@@ -1,6 +1,5 @@
 -- `session::call_size` meets its contract, by the kinds of calls. Assumes nothing.
 use mathlib.Core.Path.{ap, sym}
-use borrow.Author.Rules.{rules}
 use Rattle.session.specs.Input.{size_of}
 use Rattle.session.proofs.input.call_size.Goals as goal
 

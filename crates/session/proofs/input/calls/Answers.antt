@@ -1,7 +1,6 @@
 -- `session::calls` meets its contract: what is left behind the memory and the count. Assumes nothing.
 use mathlib.Core.Path.{ap, ◌∙◌}
 use Prim.Native.Nat.{ℕ, ◌+◌}
-use borrow.Author.Rules.{rules}
 use Rattle.fields.specs.Fields.{rest_of}
 use Rattle.session.proofs.input.calls.Goals as goal
 

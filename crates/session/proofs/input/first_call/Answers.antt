@@ -1,5 +1,4 @@
 -- `session::first_call` meets its contract, by the byte at the front. Assumes nothing.
-use borrow.Author.Rules.{rules}
 use Rattle.session.specs.Calls.{call_render, call_other, call_short, call_update}
 use Rattle.session.proofs.input.first_call.Goals as goal
 

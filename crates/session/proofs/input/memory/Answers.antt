@@ -1,6 +1,5 @@
 -- `session::memory` meets its contract: as long as its count says. Assumes nothing.
 use mathlib.Core.Path.{ap, ◌∙◌}
-use borrow.Author.Rules.{rules}
 use Rattle.fields.specs.Fields.{section_of}
 use Rattle.session.proofs.input.memory.Goals as goal
 

@@ -1,6 +1,5 @@
 -- `session::parameters` meets its contract: the section is parsed. Assumes nothing.
 use mathlib.Core.Path.{ap, ◌∙◌}
-use borrow.Author.Rules.{rules}
 use Rattle.params.specs.Params.{parse_of}
 use Rattle.session.proofs.input.parameters.Goals as goal
 

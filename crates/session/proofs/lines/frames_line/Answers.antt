@@ -1,7 +1,6 @@
 -- `session::frames_line` meets its contract: the head, the floats, and the line's end. Assumes nothing.
 use Prim.Native.Nat.{◌+◌, ◌*◌, ◌/◌, ◌≤◌}
 use native.Mathlib.Omega.{arith}
-use borrow.Author.Rules.{rules}
 use lib.ListN.{length}
 use Rattle.session.specs.Lines.{frames_word, floats_text, frames_line}
 use Rattle.session.specs.Line.{head_near, rest_near, line_written, line_inside}

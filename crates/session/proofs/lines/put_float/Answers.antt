@@ -2,7 +2,6 @@
 use mathlib.Core.Path.{◌∙◌}
 use mathlib.Core.List.{[], ◌∷◌}
 use native.Mathlib.Omega.{arith}
-use borrow.Author.Rules.{rules}
 use Rattle.session.specs.Text.{hex_of}
 use Rattle.session.specs.Digits.{length_hex}
 use Rattle.session.specs.Written.{end_is, append_two}

@@ -1,12 +1,9 @@
 -- `session::put_floats` meets its contract: `Writing` holds at each turn. Assumes nothing.
-use Prim.Native.Nat.{◌-◌}
 use native.Mathlib.Omega.{arith}
-use borrow.Author.Rules.{rules}
 use lib.Ieee.{nan}
-use lib.ListN.{length, get_or}
-use Rattle.session.specs.Text.{text}
-use Rattle.session.specs.Lines.{float_text, floats_text}
-use Rattle.session.specs.Written.{Writing, write_begin, write_room, write_more, write_end}
+use lib.ListN.{get_or}
+use Rattle.session.specs.Lines.{floats_text}
+use Rattle.session.specs.Written.{write_begin, write_room, write_more, write_end}
 use Rattle.session.specs.Words.{length_float}
 use Rattle.session.proofs.lines.put_floats.Goals as goal
 

@@ -1,6 +1,5 @@
 -- `session::put_head` meets its contract: a word, and a number behind it. Assumes nothing.
 use native.Mathlib.Omega.{arith}
-use borrow.Author.Rules.{rules}
 use Rattle.session.specs.Digits.{length_decimal}
 use Rattle.session.specs.Written.{end_is, append_two}
 use Rattle.session.proofs.lines.put_head.Goals as goal

@@ -1,13 +1,11 @@
 -- `session::put_words` meets its contract: `Writing` holds at each turn. Assumes nothing.
 use mathlib.Core.Path.{ap, ◌∙◌}
-use Prim.Native.Nat.{ℕ, ◌+◌, ◌-◌, ◌*◌, ◌/◌}
+use Prim.Native.Nat.{ℕ, ◌*◌}
 use native.Mathlib.Omega.{arith}
-use borrow.Author.Rules.{rules}
-use lib.ListN.{length}
 use Rattle.fields.specs.Fields.{le}
 use Rattle.session.specs.Text.{text, append}
 use Rattle.session.specs.Lines.{word_text, words_text}
-use Rattle.session.specs.Written.{Writing, write_begin, write_room, write_more, write_end}
+use Rattle.session.specs.Written.{write_begin, write_room, write_more, write_end}
 use Rattle.session.specs.Words.{length_word}
 use Rattle.session.proofs.lines.put_words.Goals as goal
 

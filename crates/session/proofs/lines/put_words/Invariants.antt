@@ -1,13 +1,9 @@
-use mathlib.Core.Path.{ap, ◌∙◌}
-use Prim.Native.Nat.{ℕ, ◌+◌, ◌-◌, ◌*◌, ◌/◌}
-use native.Mathlib.Omega.{arith}
-use borrow.Author.Rules.{rules}
+use Prim.Native.Nat.{◌+◌, ◌-◌, ◌*◌, ◌/◌}
 use lib.ListN.{length}
 use Rattle.fields.specs.Fields.{le}
-use Rattle.session.specs.Text.{text, append}
-use Rattle.session.specs.Lines.{word_text, words_text}
-use Rattle.session.specs.Written.{Writing, write_begin, write_room, write_more, write_end}
-use Rattle.session.specs.Words.{length_word}
+use Rattle.session.specs.Text.{text}
+use Rattle.session.specs.Lines.{word_text}
+use Rattle.session.specs.Written.{Writing}
 use Rattle.session.proofs.lines.put_words.Given as goal
 
 abbrev pub invariant-loop-k : goal.invariant-loop-k

@@ -1,6 +1,5 @@
 -- `session::refused_line` meets its contract: the head, and the line's end. Assumes nothing.
 use native.Mathlib.Omega.{arith}
-use borrow.Author.Rules.{rules}
 use lib.ListN.{length-append}
 use Rattle.session.specs.Text.{decimal_of}
 use Rattle.session.specs.Lines.{refused_word, refused_line}

@@ -1,5 +1,4 @@
 -- `session::word_at` meets its contract: four bytes, the lowest first. Assumes nothing.
-use borrow.Author.Rules.{rules}
 use Rattle.session.specs.Words.{word_is}
 use Rattle.session.proofs.lines.word_at.Goals as goal
 

@@ -2,10 +2,9 @@
 use mathlib.Core.Path.{◌≡◌, ap, ◌∙◌}
 use native.Mathlib.Omega.{arith}
 use lib.ListN.{drop}
-use borrow.Author.Rules.{rules}
 use Rattle.fields.specs.Fields.{rest_of}
 use Rattle.session.specs.Input.{call_of, size_of}
-use Rattle.session.specs.Calls.{Walking, walk_begin, walk_inside, walk_more, walk_cut, walk_end}
+use Rattle.session.specs.Calls.{walk_begin, walk_inside, walk_more, walk_cut, walk_end}
 use Rattle.session.proofs.question.calls_whole.Goals as goal
 use Rattle.session.proofs.question.calls_whole.Goals.{After-call_size-size}
 

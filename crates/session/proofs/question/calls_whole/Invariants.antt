@@ -1,10 +1,4 @@
-use mathlib.Core.Path.{◌≡◌, ap, ◌∙◌}
-use native.Mathlib.Omega.{arith}
-use lib.ListN.{drop}
-use borrow.Author.Rules.{rules}
-use Rattle.fields.specs.Fields.{rest_of}
-use Rattle.session.specs.Input.{call_of, size_of}
-use Rattle.session.specs.Calls.{Walking, walk_begin, walk_inside, walk_more, walk_cut, walk_end}
+use Rattle.session.specs.Calls.{Walking}
 use Rattle.session.proofs.question.calls_whole.Given as goal
 
 abbrev pub invariant-loop-left : goal.invariant-loop-left

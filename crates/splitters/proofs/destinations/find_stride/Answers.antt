@@ -1,11 +1,9 @@
 -- `splitters::destinations::find_stride` meets its contract: `Trying` holds at each turn. Assumes nothing.
 use mathlib.Core.Path.{refl}
-use Prim.Native.Nat.{◌-◌}
 use native.Mathlib.Omega.{arith}
-use borrow.Author.Rules.{rules}
 use borrow.Author.Tests.{lt-ltb, le-ltb}
 use Rattle.splitters.specs.Destinations.{stride_of}
-use Rattle.splitters.proofs.Stride.{Trying, try_more, try_found, try_none}
+use Rattle.splitters.proofs.Stride.{try_more, try_found, try_none}
 use Rattle.splitters.proofs.destinations.find_stride.Goals as goal
 
 pub returns-then-count-lt2 : goal.returns-then-count-lt2

@@ -1,10 +1,5 @@
-use mathlib.Core.Path.{refl}
 use Prim.Native.Nat.{◌-◌}
-use native.Mathlib.Omega.{arith}
-use borrow.Author.Rules.{rules}
-use borrow.Author.Tests.{lt-ltb, le-ltb}
-use Rattle.splitters.specs.Destinations.{stride_of}
-use Rattle.splitters.proofs.Stride.{Trying, try_more, try_found, try_none}
+use Rattle.splitters.proofs.Stride.{Trying}
 use Rattle.splitters.proofs.destinations.find_stride.Given as goal
 
 abbrev pub invariant-loop-k : goal.invariant-loop-k

@@ -1,8 +1,6 @@
 -- `splitters::destinations::put_volumes` meets its contract: `Tabling` holds at each turn. Assumes nothing.
-use Prim.Native.Nat.{◌-◌}
 use native.Mathlib.Omega.{arith}
-use borrow.Author.Rules.{rules}
-use Rattle.rows.specs.Tables.{Tabling, table_begin, table_step, table_end}
+use Rattle.rows.specs.Tables.{table_begin, table_step, table_end}
 use Rattle.splitters.specs.Destinations.{volume_of}
 use Rattle.splitters.proofs.destinations.put_volumes.Goals as goal
 

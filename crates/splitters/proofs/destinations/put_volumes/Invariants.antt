@@ -1,7 +1,5 @@
 use Prim.Native.Nat.{◌-◌}
-use native.Mathlib.Omega.{arith}
-use borrow.Author.Rules.{rules}
-use Rattle.rows.specs.Tables.{Tabling, table_begin, table_step, table_end}
+use Rattle.rows.specs.Tables.{Tabling}
 use Rattle.splitters.specs.Destinations.{volume_of}
 use Rattle.splitters.proofs.destinations.put_volumes.Given as goal
 

@@ -1,7 +1,6 @@
 -- `splitters::destinations::read_destination` meets its contract. Assumes nothing.
 use mathlib.Core.Path.{◌∙◌}
 use native.Mathlib.Omega.{arith}
-use borrow.Author.Rules.{rules}
 use Rattle.splitters.proofs.Stores.{taken, passed}
 use Rattle.splitters.proofs.destinations.read_destination.Goals as goal
 

@@ -1,11 +1,9 @@
 -- `splitters::destinations::read_destinations` meets its contract: `Walking` holds at each turn. Assumes nothing.
-use mathlib.Core.Path.{◌≡◌, refl}
-use Prim.Native.Nat.{◌+◌, ◌-◌, ◌^◌, ◌<◌}
+use mathlib.Core.Path.{refl}
+use Prim.Native.Nat.{◌+◌}
 use native.Mathlib.Omega.{arith}
-use borrow.Author.Rules.{rules}
-use lib.ListN.{length}
-use Rattle.splitters.specs.Walk.{Walking, walk_begin, walk_more, walk_stop, walk_end}
-use Rattle.splitters.specs.Destinations.{left, destination_at, destination_step, destinations_from}
+use Rattle.splitters.specs.Walk.{walk_begin, walk_more, walk_stop, walk_end}
+use Rattle.splitters.specs.Destinations.{left, destination_step, destinations_from}
 use Rattle.splitters.proofs.Places.{sees, misses, near}
 use Rattle.splitters.proofs.destinations.read_destinations.Goals as goal
 
@@ -26,8 +24,7 @@ pub loop-k-preserved : goal.loop-k-preserved
 unfolding destination_step
 loop-k-preserved c =
     let b = near _ _ c.u32_at.ensures c.if-u32_at-ne-DESTINATION_MAGIC.false (omega arith) (omega arith) in
-    let l = c.loop-k in
-    (
+    let l = c.loop-k in (
       walk_more l.invariant.0 (omega arith) (sees _ _ c.u32_at.ensures c.if-u32_at-ne-DESTINATION_MAGIC.false)
           (λ i. left (l.at + c.args.stride) (c.read_destination.ensures.0 i) (c.read_destination.ensures.1 i)),
       omega arith,

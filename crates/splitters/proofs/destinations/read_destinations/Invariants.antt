@@ -1,11 +1,8 @@
-use mathlib.Core.Path.{◌≡◌, refl}
+use mathlib.Core.Path.{◌≡◌}
 use Prim.Native.Nat.{◌+◌, ◌-◌, ◌^◌, ◌<◌}
-use native.Mathlib.Omega.{arith}
-use borrow.Author.Rules.{rules}
 use lib.ListN.{length}
-use Rattle.splitters.specs.Walk.{Walking, walk_begin, walk_more, walk_stop, walk_end}
-use Rattle.splitters.specs.Destinations.{left, destination_at, destination_step, destinations_from}
-use Rattle.splitters.proofs.Places.{sees, misses, near}
+use Rattle.splitters.specs.Walk.{Walking}
+use Rattle.splitters.specs.Destinations.{left, destination_at, destination_step}
 use Rattle.splitters.proofs.destinations.read_destinations.Given as goal
 
 abbrev pub invariant-loop-k : goal.invariant-loop-k

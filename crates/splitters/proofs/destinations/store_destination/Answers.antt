@@ -1,7 +1,6 @@
 -- `splitters::destinations::store_destination` meets its contract: the two words and the volumes are the destination's rows. Assumes nothing.
 use mathlib.Core.Path.{ap, ◌∙◌}
 use native.Mathlib.Omega.{arith}
-use borrow.Author.Rules.{rules}
 use lib.ListN.{length-set}
 use Rattle.splitters.specs.Destinations.{flag_of, used_of}
 use Rattle.splitters.proofs.Stores.{words_stored, floats_new, floats_old}

@@ -1,6 +1,5 @@
 -- `splitters::lists::next_place` meets its contract: a return for each answer of `next_of`. Assumes nothing.
 use native.Mathlib.Omega.{arith}
-use borrow.Author.Rules.{rules}
 use borrow.Author.Tests.{eq-eqb, ne_eqb}
 use Rattle.splitters.specs.Lists.{next_of}
 use Rattle.splitters.proofs.lists.next_place.Goals as goal

@@ -1,9 +1,7 @@
 -- `splitters::lists::put_entries` meets its contract: `Tabling` holds at each turn. Assumes nothing.
 use mathlib.Core.Path.{ap, ◌∙◌}
-use Prim.Native.Nat.{◌-◌}
 use native.Mathlib.Omega.{arith}
-use borrow.Author.Rules.{rules}
-use Rattle.rows.specs.Tables.{Tabling, table_begin, table_step, table_end}
+use Rattle.rows.specs.Tables.{table_begin, table_step, table_end}
 use Rattle.fields.specs.Fields.{positive}
 use Rattle.splitters.specs.Lists.{entry_of}
 use Rattle.splitters.proofs.lists.put_entries.Goals as goal

@@ -1,9 +1,5 @@
-use mathlib.Core.Path.{ap, ◌∙◌}
 use Prim.Native.Nat.{◌-◌}
-use native.Mathlib.Omega.{arith}
-use borrow.Author.Rules.{rules}
-use Rattle.rows.specs.Tables.{Tabling, table_begin, table_step, table_end}
-use Rattle.fields.specs.Fields.{positive}
+use Rattle.rows.specs.Tables.{Tabling}
 use Rattle.splitters.specs.Lists.{entry_of}
 use Rattle.splitters.proofs.lists.put_entries.Given as goal
 

@@ -1,8 +1,6 @@
 -- `splitters::lists::read_splitter` meets its contract: the count is `count_of`. Assumes nothing.
 use mathlib.Core.Path.{◌≡◌, ap, ◌∙◌}
 use Prim.Native.Nat.{ℕ, min}
-use native.Mathlib.Omega.{arith}
-use borrow.Author.Rules.{rules}
 use Rattle.splitters.specs.Lists.{count_of, next_of, with_list, lists, splitter_step}
 use Rattle.splitters.proofs.lists.read_splitter.Goals as goal
 

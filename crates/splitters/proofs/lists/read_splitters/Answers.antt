@@ -1,11 +1,8 @@
 -- `splitters::lists::read_splitters` meets its contract: `Walking` holds at each turn. Assumes nothing.
-use mathlib.Core.Path.{◌≡◌, refl}
-use Prim.Native.Nat.{◌+◌, ◌-◌, ◌^◌, ◌<◌}
+use mathlib.Core.Path.{refl}
 use native.Mathlib.Omega.{arith}
-use borrow.Author.Rules.{rules}
-use lib.ListN.{length}
-use Rattle.splitters.specs.Walk.{Walking, walk_begin, walk_more, walk_stop, walk_end}
-use Rattle.splitters.specs.Lists.{lists, splitter_at, splitter_step, splitters_from}
+use Rattle.splitters.specs.Walk.{walk_begin, walk_more, walk_stop, walk_end}
+use Rattle.splitters.specs.Lists.{splitters_from}
 use Rattle.splitters.proofs.Places.{sees, misses, near}
 use Rattle.splitters.proofs.lists.read_splitters.Goals as goal
 

@@ -1,7 +1,6 @@
 -- `splitters::lists::store_list` meets its contract: the length and the entries behind it are the splitter's row. Assumes nothing.
 use mathlib.Core.Path.{◌∙◌}
 use native.Mathlib.Omega.{arith}
-use borrow.Author.Rules.{rules}
 use lib.ListN.{length-set}
 use Rattle.splitters.proofs.Stores.{list_stored, list_kept}
 use Rattle.splitters.proofs.lists.store_list.Goals as goal

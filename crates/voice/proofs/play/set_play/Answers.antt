@@ -1,5 +1,4 @@
 -- `voice::set_play` meets its contract: each way out is a case of the request and of the play mark. Assumes nothing.
-use Rattle.std.proofs.Common.{rules}
 use Rattle.voice.specs.Laws.{play_started, play_stopped, play_paused}
 use Rattle.voice.proofs.play.set_play.Goals as goal
 

@@ -1,5 +1,5 @@
 -- `voice::end_buffer` meets its contract: what the calls and the branch give are the parts of `end_buffer`. Assumes nothing.
-use Rattle.std.proofs.Common.{◌∙◌, rules}
+use Rattle.std.proofs.Common.{◌∙◌}
 use Rattle.voice.specs.Queue.{queue_at}
 use Rattle.voice.specs.Laws.{end_made}
 use Rattle.voice.proofs.queue.end_buffer.Goals as goal

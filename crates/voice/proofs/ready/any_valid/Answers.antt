@@ -1,6 +1,5 @@
 -- `voice::any_valid` meets its contract: the first of the four that is true decides, or the last. Assumes nothing.
-use Rattle.std.proofs.Common.{sym, refl, ◌∙◌, rules}
-use lib.ListN.{length-map}
+use Rattle.std.proofs.Common.{refl}
 use Rattle.voice.specs.Slots.{Four, is_four, any_four}
 use Rattle.voice.proofs.ready.any_valid.Goals as goal
 use Rattle.voice.proofs.ready.any_valid.Goals.{Start}

@@ -1,6 +1,5 @@
 -- `voice::flush` meets its contract: below five turns it is the walk, else the walk of four and the rest worked out. Assumes nothing.
-use Rattle.std.proofs.Common.{◌≡◌, sym, ◌∙◌, arith, rules}
-use lib.ListN.{length-map}
+use Rattle.std.proofs.Common.{◌∙◌, arith}
 use Rattle.voice.proofs.LongFlush.{flush_rest}
 use Rattle.voice.proofs.ready.flush.Goals as goal
 

@@ -1,5 +1,4 @@
 -- `voice::flush_slot` meets its contract: what the two calls give are the parts of `flush_slot`. Assumes nothing.
-use Rattle.std.proofs.Common.{rules}
 use Rattle.voice.specs.Slots.{flush_made}
 use Rattle.voice.proofs.ready.flush_slot.Goals as goal
 

@@ -1,5 +1,5 @@
 -- `voice::prepare` meets its contract: what the calls give, by the play mark, are the parts of `prepare_of`. Assumes nothing.
-use Rattle.std.proofs.Common.{◌≡◌, ◌<◌, sym, subst, rules}
+use Rattle.std.proofs.Common.{◌≡◌, ◌<◌, sym, subst}
 use Rattle.voice.specs.declared.queue.Queue.{Queue}
 use Rattle.voice.specs.Prepares.{flushed_queue, flush_queue, prepared_started, prepared_stopping, prepared_stopped, prepared_paused}
 use Rattle.voice.specs.Slots.{flushed_index}

@@ -1,7 +1,6 @@
 -- `voice::promote` meets its contract. The loop's invariant: the slots before k are promoted. Assumes nothing.
-use Rattle.std.proofs.Common.{◌≡◌, ◌-◌, ◌≤◌, sym, ◌∙◌, arith, rules}
-use lib.ListN.{length-map}
-use Rattle.voice.specs.Slots.{promote_to, promote_begin, promote_more, promote_end}
+use Rattle.std.proofs.Common.{arith}
+use Rattle.voice.specs.Slots.{promote_begin, promote_more, promote_end}
 use Rattle.voice.proofs.ready.promote.Goals as goal
 
 pub loop-k-init : goal.loop-k-init

@@ -1,6 +1,5 @@
-use Rattle.std.proofs.Common.{◌≡◌, ◌-◌, ◌≤◌, sym, ◌∙◌, arith, rules}
-use lib.ListN.{length-map}
-use Rattle.voice.specs.Slots.{promote_to, promote_begin, promote_more, promote_end}
+use Rattle.std.proofs.Common.{◌≡◌, ◌-◌, ◌≤◌}
+use Rattle.voice.specs.Slots.{promote_to}
 use Rattle.voice.proofs.ready.promote.Given as goal
 
 abbrev pub invariant-loop-k : goal.invariant-loop-k

@@ -1,6 +1,5 @@
 -- `voice::promote_slot` meets its contract: a pending buffer becomes valid, and any other slot is as it was. Assumes nothing.
 use Rattle.voice.specs.Slots.{promote_pending, promote_settled}
-use Rattle.std.proofs.Common.{rules}
 use Rattle.voice.proofs.ready.promote_slot.Goals as goal
 
 pub returns-then-b : goal.returns-then-b

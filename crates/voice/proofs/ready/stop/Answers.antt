@@ -1,7 +1,6 @@
 -- `voice::stop` meets its contract. The loop's invariant: the slots before k are stopped. Assumes nothing.
-use Rattle.std.proofs.Common.{◌-◌, sym, ◌∙◌, arith, rules}
-use lib.ListN.{length-map}
-use Rattle.voice.specs.Slots.{Stopping, stop_begin, stop_more, stop_end}
+use Rattle.std.proofs.Common.{arith}
+use Rattle.voice.specs.Slots.{stop_begin, stop_more, stop_end}
 use Rattle.voice.proofs.ready.stop.Goals as goal
 
 pub loop-k-init : goal.loop-k-init

@@ -1,6 +1,5 @@
-use Rattle.std.proofs.Common.{◌-◌, sym, ◌∙◌, arith, rules}
-use lib.ListN.{length-map}
-use Rattle.voice.specs.Slots.{Stopping, stop_begin, stop_more, stop_end}
+use Rattle.std.proofs.Common.{◌-◌}
+use Rattle.voice.specs.Slots.{Stopping}
 use Rattle.voice.proofs.ready.stop.Given as goal
 
 abbrev pub invariant-loop-k : goal.invariant-loop-k

@@ -1,5 +1,5 @@
 -- `voice::stop_slot` meets its contract: index and consumed go on where the slot was valid. Assumes nothing.
-use Rattle.std.proofs.Common.{refl, rules}
+use Rattle.std.proofs.Common.{refl}
 use Rattle.voice.specs.Slots.{stop_made}
 use Rattle.voice.proofs.ready.stop_slot.Goals as goal
 

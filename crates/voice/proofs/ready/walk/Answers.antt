@@ -1,6 +1,6 @@
 -- `voice::walk` meets its contract. The loop's invariant: the turns that are left, done, are the whole walk. Assumes nothing.
-use Rattle.std.proofs.Common.{◌-◌, arith, rules}
-use Rattle.voice.specs.Slots.{Flushing, flush_begin, flush_more, flush_end}
+use Rattle.std.proofs.Common.{arith}
+use Rattle.voice.specs.Slots.{flush_begin, flush_more, flush_end}
 use Rattle.voice.proofs.ready.walk.Goals as goal
 
 pub loop-turn-init : goal.loop-turn-init

@@ -1,5 +1,5 @@
-use Rattle.std.proofs.Common.{◌-◌, arith, rules}
-use Rattle.voice.specs.Slots.{Flushing, flush_begin, flush_more, flush_end}
+use Rattle.std.proofs.Common.{◌-◌}
+use Rattle.voice.specs.Slots.{Flushing}
 use Rattle.voice.proofs.ready.walk.Given as goal
 
 abbrev pub invariant-loop-turn : goal.invariant-loop-turn

@@ -1,5 +1,5 @@
 -- `voice::sound_after` meets its contract, by whether the voice is renewed. Assumes nothing.
-use Rattle.std.proofs.Common.{Bool, sym, ap, ◌∙◌, rules}
+use Rattle.std.proofs.Common.{Bool, sym, ap, ◌∙◌}
 use Rattle.voice.specs.Sound.{sound_after}
 use Rattle.voice.proofs.sound.sound_after.Goals as goal
 

@@ -1,10 +1,8 @@
 -- `idle_row::flags_stored` meets its contract: each flag is tested. Assumes nothing.
 use mathlib.Core.Path.{sym, subst}
-use Prim.Native.Nat.{ℕ, ◌+◌, ◌-◌, ◌≤◌}
 use native.Mathlib.Omega.{arith}
 use lib.Dec.{T}
-use lib.ListN.{get_or}
-use Rattle.voice_rows.proofs.Tested.{Tested, none, more, passed}
+use Rattle.voice_rows.proofs.Tested.{none, more, passed}
 use Rattle.voice_rows.proofs.idle_row.flags_stored.Goals as goal
 
 pub loop-k-init : goal.loop-k-init

@@ -1,9 +1,6 @@
-use mathlib.Core.Path.{sym, subst}
 use Prim.Native.Nat.{ℕ, ◌+◌, ◌-◌, ◌≤◌}
-use native.Mathlib.Omega.{arith}
-use lib.Dec.{T}
 use lib.ListN.{get_or}
-use Rattle.voice_rows.proofs.Tested.{Tested, none, more, passed}
+use Rattle.voice_rows.proofs.Tested.{Tested}
 use Rattle.voice_rows.proofs.idle_row.flags_stored.Given as goal
 
 abbrev pub invariant-loop-k : goal.invariant-loop-k

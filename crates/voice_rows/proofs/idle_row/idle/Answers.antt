@@ -1,8 +1,5 @@
 -- `idle_row::idle` meets its contract: by what is told of the voice first. Assumes nothing.
 use mathlib.Core.Path.{sym, subst}
-use native.Mathlib.Omega.{arith}
-use borrow.Author.Tests.{not-false}
-use borrow.Author.Rules.{rules}
 use lib.Dec.{T}
 use Rattle.voice_rows.specs.IdleRow.{unused, empty, waiting}
 use Rattle.voice_rows.proofs.idle_row.idle.Goals as goal

@@ -1,7 +1,6 @@
 -- `idle_row::row_stored` meets its contract: each mark is tested. Assumes nothing.
 use mathlib.Core.Path.{sym, subst}
 use native.Mathlib.Omega.{arith}
-use borrow.Author.Tests.{not-false}
 use lib.Dec.{T}
 use Rattle.voice_rows.proofs.idle_row.row_stored.Goals as goal
 

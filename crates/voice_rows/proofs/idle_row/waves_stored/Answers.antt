@@ -1,11 +1,8 @@
 -- `idle_row::waves_stored` meets its contract: each wave buffer is tested. Assumes nothing.
 use mathlib.Core.Path.{sym, subst}
-use Prim.Native.Nat.{ℕ, ◌+◌, ◌-◌, ◌*◌}
 use native.Mathlib.Omega.{arith}
-use borrow.Author.Tests.{not-false}
 use lib.Dec.{T}
-use Rattle.voice_rows.specs.IdleRow.{StoredWave}
-use Rattle.voice_rows.proofs.Tested.{Tested, none, more, passed}
+use Rattle.voice_rows.proofs.Tested.{none, more, passed}
 use Rattle.voice_rows.proofs.idle_row.waves_stored.Goals as goal
 
 pub loop-b-init : goal.loop-b-init

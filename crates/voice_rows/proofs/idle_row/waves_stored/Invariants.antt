@@ -1,10 +1,6 @@
-use mathlib.Core.Path.{sym, subst}
 use Prim.Native.Nat.{ℕ, ◌+◌, ◌-◌, ◌*◌}
-use native.Mathlib.Omega.{arith}
-use borrow.Author.Tests.{not-false}
-use lib.Dec.{T}
 use Rattle.voice_rows.specs.IdleRow.{StoredWave}
-use Rattle.voice_rows.proofs.Tested.{Tested, none, more, passed}
+use Rattle.voice_rows.proofs.Tested.{Tested}
 use Rattle.voice_rows.proofs.idle_row.waves_stored.Given as goal
 
 abbrev pub invariant-loop-b : goal.invariant-loop-b

@@ -2,7 +2,6 @@
 use mathlib.Core.Path.{◌∙◌}
 use native.Mathlib.Omega.{arith}
 use Rattle.voice_rows.specs.VoiceRow.{voice_made}
-use borrow.Author.Rules.{rules}
 use Rattle.voice_rows.proofs.voice_row.load_voice.Goals as goal
 
 pub load_wave-b2-requires : goal.load_wave-b2-requires

@@ -4,4 +4,4 @@ use borrow.Author.Rules.{rules}
 use Rattle.voice_rows.proofs.voice_row.play_of.Goals as goal
 
 pub returns-in_default : goal.returns-in_default
-returns-in_default c = play_rest c.args.w c.in_default.in_default-own.rest.0.0.1 c.in_default.in_default-own.rest.0.1 c.in_default.in_default-own.rest.1
+returns-in_default c = search (rules, play_rest)

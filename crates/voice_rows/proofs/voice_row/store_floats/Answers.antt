@@ -2,7 +2,6 @@
 use mathlib.Core.Path.{ap, ◌∙◌}
 use Rattle.rows.specs.Rows.{put}
 use Rattle.voice_rows.specs.VoiceRow.{floats_of}
-use borrow.Author.Rules.{rules}
 use Rattle.voice_rows.proofs.voice_row.store_floats.Goals as goal
 
 pub returns : goal.returns

@@ -3,7 +3,6 @@ use mathlib.Core.Path.{ap, ◌∙◌}
 use Rattle.rows.specs.Rows.{put}
 use Rattle.voice_rows.specs.WaveRow.{longs_of_wave, length_wave_longs}
 use Rattle.voice_rows.specs.VoiceRow.{top_of, longs_of, length_top, waves_stored}
-use borrow.Author.Rules.{rules}
 use Rattle.voice_rows.proofs.voice_row.store_longs.Goals as goal
 
 pub returns : goal.returns

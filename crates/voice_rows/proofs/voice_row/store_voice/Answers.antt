@@ -1,5 +1,4 @@
 -- `voice_rows::store_voice` meets its contract: one store for each slice. Assumes nothing.
-use borrow.Author.Rules.{rules}
 use Rattle.voice_rows.proofs.voice_row.store_voice.Goals as goal
 
 pub returns : goal.returns

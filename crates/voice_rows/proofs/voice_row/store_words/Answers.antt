@@ -3,7 +3,6 @@ use mathlib.Core.Path.{ap, ◌∙◌}
 use Rattle.rows.specs.Rows.{put}
 use Rattle.voice_rows.specs.WaveRow.{words_of_wave, length_wave_words}
 use Rattle.voice_rows.specs.VoiceRow.{head_from, head_of, words_of, length_head, waves_stored}
-use borrow.Author.Rules.{rules}
 use Rattle.voice_rows.proofs.voice_row.store_words.Goals as goal
 
 pub returns : goal.returns

@@ -1,7 +1,6 @@
 -- `voice_rows::load_wave` meets its contract: the buffer is made of the two rows copied out. Assumes nothing.
 use mathlib.Core.Path.{◌∙◌}
 use Rattle.voice_rows.specs.WaveRow.{wave_of}
-use borrow.Author.Rules.{rules}
 use Rattle.voice_rows.proofs.wave_row.load_wave.Goals as goal
 
 pub returns : goal.returns

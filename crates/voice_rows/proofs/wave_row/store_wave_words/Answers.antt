@@ -2,7 +2,6 @@
 use mathlib.Core.Path.{ap, ◌∙◌}
 use Rattle.rows.specs.Rows.{put}
 use Rattle.voice_rows.specs.WaveRow.{words_of_wave}
-use borrow.Author.Rules.{rules}
 use Rattle.voice_rows.proofs.wave_row.store_wave_words.Goals as goal
 
 pub returns : goal.returns

@@ -1,7 +1,6 @@
 -- `gains::resource_of` meets its contract: each of the six ids is a resource's. Assumes nothing.
 use mathlib.Core.Path.{refl}
 use native.Mathlib.Omega.{arith}
-use borrow.Author.Rules.{rules}
 use Rattle.voice_sends.proofs.gains.resource_of.Goals as goal
 
 pub returns : goal.returns

@@ -1,6 +1,5 @@
 -- `gains::send_channel` meets its contract: the send with the mix's offset and count, then the row that is taken. Assumes nothing.
 use native.Mathlib.Omega.{arith}
-use borrow.Author.Rules.{rules}
 use Rattle.voice_sends.specs.Sending.{passing, sent}
 use Rattle.voice_sends.specs.Laws.{row_inside}
 use Rattle.voice_sends.proofs.gains.send_channel.Goals as goal

@@ -1,13 +1,9 @@
 -- `gains::take_over` meets its contract: `Turning` holds at each turn. Assumes nothing.
-use mathlib.Core.Path.{◌≡◌, refl, ap, ◌∙◌}
-use mathlib.Core.List.{List}
-use Prim.Native.Nat.{ℕ, ◌*◌, ◌-◌}
+use mathlib.Core.Path.{refl, ap, ◌∙◌}
+use Prim.Native.Nat.{ℕ}
 use native.Mathlib.Omega.{arith}
-use borrow.Author.Rules.{rules}
-use lib.ListN.{length, get_or}
-use lib.Ieee.{Float}
 use Rattle.voice_sends.specs.Sending.{taken, taken_over}
-use Rattle.rows.specs.Loops.{Turning, turn_begin, turn_more, turn_end}
+use Rattle.rows.specs.Loops.{turn_begin, turn_more, turn_end}
 use Rattle.voice_sends.specs.Laws.{taken_keeps}
 use Rattle.voice_sends.proofs.gains.take_over.Goals as goal
 

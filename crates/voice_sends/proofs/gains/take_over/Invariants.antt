@@ -1,13 +1,10 @@
-use mathlib.Core.Path.{◌≡◌, refl, ap, ◌∙◌}
+use mathlib.Core.Path.{◌≡◌}
 use mathlib.Core.List.{List}
-use Prim.Native.Nat.{ℕ, ◌*◌, ◌-◌}
-use native.Mathlib.Omega.{arith}
-use borrow.Author.Rules.{rules}
+use Prim.Native.Nat.{◌*◌, ◌-◌}
 use lib.ListN.{length, get_or}
 use lib.Ieee.{Float}
-use Rattle.voice_sends.specs.Sending.{taken, taken_over}
-use Rattle.rows.specs.Loops.{Turning, turn_begin, turn_more, turn_end}
-use Rattle.voice_sends.specs.Laws.{taken_keeps}
+use Rattle.voice_sends.specs.Sending.{taken}
+use Rattle.rows.specs.Loops.{Turning}
 use Rattle.voice_sends.proofs.gains.take_over.Given as goal
 
 abbrev pub invariant-loop-c : goal.invariant-loop-c

@@ -1,13 +1,11 @@
 -- `mix::mix_sends` meets its contract: `Turning` holds at each turn. Assumes nothing.
 use mathlib.Core.Path.{refl, ap, ◌∙◌}
-use Prim.Native.Nat.{ℕ, ◌*◌, ◌-◌}
+use Prim.Native.Nat.{ℕ}
 use native.Mathlib.Omega.{arith}
-use borrow.Author.Rules.{rules}
-use lib.ListN.{length, get_or}
 use Rattle.desk_rows.specs.DeskRows.{mix_offset, mix_buffers}
 use Rattle.voice_sends.specs.Sending.{passing, sent, mix_sends}
-use Rattle.rows.specs.Loops.{Turning, turn_begin, turn_more, turn_end}
-use Rattle.voice_sends.specs.Sizes.{Sizes, sent_keeps}
+use Rattle.rows.specs.Loops.{turn_begin, turn_more, turn_end}
+use Rattle.voice_sends.specs.Sizes.{sent_keeps}
 use Rattle.voice_sends.proofs.mix.mix_sends.Goals as goal
 
 pub loop-c-init : goal.loop-c-init

@@ -1,12 +1,9 @@
-use mathlib.Core.Path.{refl, ap, ◌∙◌}
-use Prim.Native.Nat.{ℕ, ◌*◌, ◌-◌}
-use native.Mathlib.Omega.{arith}
-use borrow.Author.Rules.{rules}
+use Prim.Native.Nat.{◌*◌, ◌-◌}
 use lib.ListN.{length, get_or}
 use Rattle.desk_rows.specs.DeskRows.{mix_offset, mix_buffers}
-use Rattle.voice_sends.specs.Sending.{passing, sent, mix_sends}
-use Rattle.rows.specs.Loops.{Turning, turn_begin, turn_more, turn_end}
-use Rattle.voice_sends.specs.Sizes.{Sizes, sent_keeps}
+use Rattle.voice_sends.specs.Sending.{passing, sent}
+use Rattle.rows.specs.Loops.{Turning}
+use Rattle.voice_sends.specs.Sizes.{Sizes}
 use Rattle.voice_sends.proofs.mix.mix_sends.Given as goal
 
 abbrev pub invariant-loop-c : goal.invariant-loop-c

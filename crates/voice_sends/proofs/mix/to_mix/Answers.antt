@@ -1,6 +1,5 @@
 -- `mix::to_mix` meets its contract: a mix is there, or not. Assumes nothing.
 use native.Mathlib.Omega.{arith}
-use borrow.Author.Rules.{rules}
 use Rattle.voice_sends.specs.Cases.{no_mix_lem, some_mix}
 use Rattle.voice_sends.proofs.mix.to_mix.Goals as goal
 

@@ -1,13 +1,8 @@
 -- `ramps::ramp_rows` meets its contract: `Turning` holds at each turn. Assumes nothing.
-use mathlib.Core.Path.{◌≡◌, refl}
-use mathlib.Core.List.{List}
-use Prim.Native.Nat.{◌-◌}
+use mathlib.Core.Path.{refl}
 use native.Mathlib.Omega.{arith}
-use borrow.Author.Rules.{rules}
-use lib.ListN.{length}
-use lib.Ieee.{Float}
-use Rattle.voice_sends.specs.Sending.{ramped_row, ramped_rows}
-use Rattle.rows.specs.Loops.{Turning, turn_begin, turn_more, turn_end}
+use Rattle.voice_sends.specs.Sending.{ramped_rows}
+use Rattle.rows.specs.Loops.{turn_begin, turn_more, turn_end}
 use Rattle.voice_sends.specs.Laws.{row_inside, ramped_row_keeps}
 use Rattle.voice_sends.proofs.ramps.ramp_rows.Goals as goal
 

@@ -1,13 +1,10 @@
-use mathlib.Core.Path.{◌≡◌, refl}
+use mathlib.Core.Path.{◌≡◌}
 use mathlib.Core.List.{List}
 use Prim.Native.Nat.{◌-◌}
-use native.Mathlib.Omega.{arith}
-use borrow.Author.Rules.{rules}
 use lib.ListN.{length}
 use lib.Ieee.{Float}
-use Rattle.voice_sends.specs.Sending.{ramped_row, ramped_rows}
-use Rattle.rows.specs.Loops.{Turning, turn_begin, turn_more, turn_end}
-use Rattle.voice_sends.specs.Laws.{row_inside, ramped_row_keeps}
+use Rattle.voice_sends.specs.Sending.{ramped_row}
+use Rattle.rows.specs.Loops.{Turning}
 use Rattle.voice_sends.proofs.ramps.ramp_rows.Given as goal
 
 abbrev pub invariant-loop-c : goal.invariant-loop-c

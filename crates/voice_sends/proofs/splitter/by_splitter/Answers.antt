@@ -1,6 +1,5 @@
 -- `splitter::by_splitter` meets its contract: a splitter is there, or not. Assumes nothing.
 use native.Mathlib.Omega.{arith}
-use borrow.Author.Rules.{rules}
 use Rattle.voice_sends.specs.Cases.{no_splitter_lem, some_splitter}
 use Rattle.voice_sends.proofs.splitter.by_splitter.Goals as goal
 

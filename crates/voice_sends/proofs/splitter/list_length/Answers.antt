@@ -1,7 +1,6 @@
 -- `splitter::list_length` meets its contract: no list is longer than the destinations are many. Assumes nothing.
 use mathlib.Core.Path.{refl}
 use native.Mathlib.Omega.{arith}
-use borrow.Author.Rules.{rules}
 use Rattle.voice_sends.proofs.splitter.list_length.Goals as goal
 
 pub returns : goal.returns

@@ -2,8 +2,6 @@
 use mathlib.Core.Path.{◌≡◌, sym, ◌∙◌}
 use mathlib.Core.Bool.{true}
 use native.Mathlib.Omega.{arith}
-use borrow.Author.Tests.{not-true, not-false}
-use borrow.Author.Rules.{rules}
 use Rattle.desk_rows.specs.DeskRows.{configured_of}
 use Rattle.voice_sends.specs.Laws.{configured_inside}
 use Rattle.voice_sends.specs.Cases.{not_configured, not_its_mix, to_its_mix}

@@ -1,7 +1,5 @@
 -- `splitter::send_entry` meets its contract. Assumes nothing.
-use Prim.Native.Nat.{◌+◌, ◌*◌}
 use native.Mathlib.Omega.{arith}
-use borrow.Author.Rules.{rules}
 use Rattle.voice_sends.proofs.splitter.send_entry.Goals as goal
 
 pub send_destination-requires : goal.send_destination-requires

@@ -1,13 +1,9 @@
-use mathlib.Core.Path.{refl}
 use Prim.Native.Nat.{◌*◌, ◌-◌}
-use native.Mathlib.Omega.{arith}
-use borrow.Author.Rules.{rules}
 use lib.ListN.{length}
 use Rattle.desk_rows.specs.DeskRows.{list_length}
-use Rattle.voice_sends.specs.Sending.{passing, entry_sent, list_sent}
-use Rattle.voice_sends.specs.Sizes.{Sizes, entry_keeps}
-use Rattle.voice_sends.specs.Strides.{Striding, stride_begin, stride_more, stride_end}
-use Rattle.voice_sends.specs.Cases.{due, not_due}
+use Rattle.voice_sends.specs.Sending.{passing, entry_sent}
+use Rattle.voice_sends.specs.Sizes.{Sizes}
+use Rattle.voice_sends.specs.Strides.{Striding}
 use Rattle.voice_sends.proofs.splitter.send_list.Given as goal
 
 abbrev pub invariant-loop-k : goal.invariant-loop-k

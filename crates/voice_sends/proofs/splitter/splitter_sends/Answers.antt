@@ -1,12 +1,9 @@
 -- `splitter::splitter_sends` meets its contract: `Turning` holds at each turn. Assumes nothing.
 use mathlib.Core.Path.{refl}
-use Prim.Native.Nat.{◌*◌, ◌-◌}
 use native.Mathlib.Omega.{arith}
-use borrow.Author.Rules.{rules}
-use lib.ListN.{length}
-use Rattle.voice_sends.specs.Sending.{passing, list_sent, splitter_sends}
-use Rattle.rows.specs.Loops.{Turning, turn_begin, turn_more, turn_end}
-use Rattle.voice_sends.specs.Sizes.{Sizes, list_keeps}
+use Rattle.voice_sends.specs.Sending.{splitter_sends}
+use Rattle.rows.specs.Loops.{turn_begin, turn_more, turn_end}
+use Rattle.voice_sends.specs.Sizes.{list_keeps}
 use Rattle.voice_sends.proofs.splitter.splitter_sends.Goals as goal
 
 pub loop-c-init : goal.loop-c-init

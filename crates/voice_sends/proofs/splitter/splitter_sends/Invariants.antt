@@ -1,11 +1,8 @@
-use mathlib.Core.Path.{refl}
 use Prim.Native.Nat.{◌*◌, ◌-◌}
-use native.Mathlib.Omega.{arith}
-use borrow.Author.Rules.{rules}
 use lib.ListN.{length}
-use Rattle.voice_sends.specs.Sending.{passing, list_sent, splitter_sends}
-use Rattle.rows.specs.Loops.{Turning, turn_begin, turn_more, turn_end}
-use Rattle.voice_sends.specs.Sizes.{Sizes, list_keeps}
+use Rattle.voice_sends.specs.Sending.{passing, list_sent}
+use Rattle.rows.specs.Loops.{Turning}
+use Rattle.voice_sends.specs.Sizes.{Sizes}
 use Rattle.voice_sends.proofs.splitter.splitter_sends.Given as goal
 
 abbrev pub invariant-loop-c : goal.invariant-loop-c

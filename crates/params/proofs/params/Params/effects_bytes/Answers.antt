@@ -1,5 +1,5 @@
 -- `Params::effects_bytes` meets its contract: by case. Assumes nothing.
-use Rattle.std.proofs.Common.{ℕ, ◌-◌, ◌*◌, ◌/◌, sym, ap, ◌∙◌, div-mul-le_self, arith, rules}
+use Rattle.std.proofs.Common.{ℕ, ◌-◌, ◌*◌, ◌/◌, sym, ap, ◌∙◌, div-mul-le_self, arith}
 use Rattle.params.specs.Laws.{effects_none, effects_short, effects_some}
 use Rattle.params.proofs.params.Params.effects_bytes.Goals as goal
 

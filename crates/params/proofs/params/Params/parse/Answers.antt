@@ -1,6 +1,5 @@
 -- `Params::parse` meets its contract: each field is what its reader gives. Assumes nothing.
 use Rattle.params.specs.Params.{parse_made}
-use Rattle.std.proofs.Common.{rules}
 use Rattle.params.proofs.params.Params.parse.Goals as goal
 
 pub returns : goal.returns

@@ -1,5 +1,5 @@
 -- `Params::render_info_size` meets its contract: by the revision. Assumes nothing.
-use Rattle.std.proofs.Common.{sym, arith, rules}
+use Rattle.std.proofs.Common.{sym, arith}
 use Rattle.params.specs.Laws.{info_some, info_none}
 use Rattle.params.proofs.params.Params.render_info_size.Goals as goal
 

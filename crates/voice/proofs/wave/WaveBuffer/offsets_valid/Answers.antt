@@ -1,5 +1,5 @@
 -- `WaveBuffer::offsets_valid` meets its contract: each way out is a case of the format. Assumes nothing.
-use Rattle.std.proofs.Common.{◌∙◌, rules}
+use Rattle.std.proofs.Common.{◌∙◌}
 use Rattle.voice.specs.Laws.{offsets_pcm16, offsets_float, offsets_adpcm, offsets_other}
 use Rattle.voice.proofs.wave.WaveBuffer.offsets_valid.Goals as goal
 

@@ -1,5 +1,4 @@
 -- `WaveBuffer::parse` meets its contract: each field is what its reader gives. Assumes nothing.
-use Rattle.std.proofs.Common.{rules}
 use Rattle.voice.specs.Laws.{parse_made}
 use Rattle.voice.proofs.wave.WaveBuffer.parse.Goals as goal
 
