@@ -57,6 +57,6 @@ pub items_play : {p : Params} {k : ℕ} → k < p.voices → {a b : State} → O
 items_play h o [] [] e = record { told = refl; voice = λ r. o.voice }
 items_play h o [] (x' ∷ xs') e = absurd (nil≢cons e)
 items_play h o (x ∷ xs) [] e = absurd (cons≢nil e)
-items_play h o (x ∷ xs) (x' ∷ xs') e =
+items_play h {a = a} {b = b} o (x ∷ xs) (x' ∷ xs') e =
     let first = items_tell h o x x' (head-eq_of_cons-eq e) in
-    first_and_rest first o.voice (items_play h first.own xs xs' (tail-eq_of_cons-eq e))
+    first_and_rest first o.voice (items_play h {a = after_item a x} {b = after_item b x'} first.own xs xs' (tail-eq_of_cons-eq e))

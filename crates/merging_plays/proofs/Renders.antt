@@ -45,8 +45,8 @@ module _ {p : Params} {k : ℕ} (h : k < p.voices) where
   renders_play o [] [] same e e' = record { rounds = refl; voice = o.voice }
   renders_play o [] (x' ∷ xs') same e e' = absurd (nil≢cons same)
   renders_play o (x ∷ xs) [] same e e' = absurd (cons≢nil same)
-  renders_play o (x ∷ xs) (x' ∷ xs') same e e' =
+  renders_play {a = a} {b = b} o (x ∷ xs) (x' ∷ xs') same e e' =
       let first : x.ranges ≡ x'.ranges = head-eq_of_cons-eq same in
       let params = params_both h o in
-      let rest = renders_play (next_own o x x' first e.0 e'.0) xs xs' (tail-eq_of_cons-eq same) e.1 e'.1 in
+      let rest = renders_play {a = (rendering_from a x).state} {b = (rendering_from b x').state} (next_own o x x' first e.0 e'.0) xs xs' (tail-eq_of_cons-eq same) e.1 e'.1 in
       record { rounds = λ i. voice_rounds (render_of (params i) (first i)) (o.voice i) ∷ rest.rounds i; voice = rest.voice }

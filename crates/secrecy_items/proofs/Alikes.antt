@@ -127,7 +127,7 @@ items_alike h [] (x' ∷ xs') e = absurd (nil≢cons e)
 items_alike h (x ∷ xs) [] e = absurd (cons≢nil e)
 items_alike {a = a} {b = b} h (x ∷ xs) (x' ∷ xs') e =
     let s = item_step h x x' (head-eq_of_cons-eq e) in
-    let rest = items_alike s.both xs xs' (tail-eq_of_cons-eq e) in
+    let rest = items_alike {a = after_item a x} {b = after_item b x'} s.both xs xs' (tail-eq_of_cons-eq e) in
     let first = as_long (calls_in a x) (calls_in b x') s.shapes in
     let place : (r : ℕ) → place_of a (x ∷ xs) r ≡ place_of b (x' ∷ xs') r = elim [ zero ↦ refl | suc r ↦ λ i. first i + rest.place r i ] in
     let many : (r : ℕ) → length (calls_of_item a (x ∷ xs) r) ≡ length (calls_of_item b (x' ∷ xs') r) =

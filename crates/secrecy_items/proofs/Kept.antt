@@ -1,7 +1,7 @@
 -- Every item of a session finds a whole state: none is refused by 4; and each of its frames lies in [-1, 1] or is NaN. Assumes nothing.
 use mathlib.Core.Path.{◌≡◌, ap, sym, subst, ◌∙◌}
 use mathlib.Core.Bool.{Bool, true, false}
-use mathlib.Core.List.{List, [], ◌∷◌, ◌++◌, Memᴰ}
+use mathlib.Core.List.{List, [], ◌∷◌, Memᴰ}
 use Prim.Native.Nat.{ℕ, zero, suc, ◌+◌, ◌<◌}
 use native.Mathlib.Omega.{arith}
 use lib.Dec.{T, leb}
@@ -52,6 +52,7 @@ module _ (st : State) (w : Whole st) where
 items_other : (st : State) → Whole st → (xs : List Item) (s : Said) → Memᴰ s (said_items st xs) → s.number ≡ 4 → ⊥
 items_other st w (x ∷ xs) s (Memᴰ.head e) = subst (λ (y : Said). y.number ≡ 4 → ⊥) (sym e) (item_other st w x)
 items_other st w (x ∷ xs) s (Memᴰ.tail i) = items_other (after_item st x) (item_whole st w x) xs s i
+items_other st w [] s i = elim i [ ]
 
 -- ---- frames in range
 
