@@ -1,6 +1,5 @@
 -- `renders::floats_for` meets its contract: the product fits. Assumes nothing.
 use native.Mathlib.Nat.{le_refl, mul-le-mul}
-use native.Mathlib.Omega.{arith}
 use borrow.Author.Rules.{rules}
 use Rattle.renders.proofs.floats_for.Goals as goal
 
