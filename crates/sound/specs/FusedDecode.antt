@@ -23,7 +23,6 @@ use Rattle.plan.specs.declared.attempt.Got.{Got}
 use Rattle.plan.specs.declared.attempt.Got.TheVariants.{Missing, Samples}
 use Rattle.plan.specs.declared.attempt.Attempt.{Attempt}
 use Rattle.plan.specs.Attempt.{pcm_plan, adpcm_plan, decode_plan}
-use Rattle.plan.specs.Rounds.{at}
 use Rattle.sound.specs.Sound.{decode_adpcm, decode_on}
 use Rattle.sound.specs.Perform.{fresh}
 use Rattle.sound.specs.Fused.{each_row, Decoding, adpcm_row, pcm_fused, adpcm_fused, decode_fused}

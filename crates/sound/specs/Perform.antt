@@ -2,7 +2,7 @@
 use Rattle.std.specs.Prelude.{ℕ, zero, suc, ◌+◌, ◌*◌, ◌≤◌, Bool, true, false, cond, ◌||◌, ◌≡◌, Float, ℤ, length, take, drop, replicate, eqb}
 use mathlib.Core.List.{List, [], ◌++◌, append-nil}
 use Rattle.std.proofs.Math.Path.{refl}
-use Rattle.std.proofs.Common.{ap, sym, ◌∙◌, drop-drop, arith, eqb-true, ne_eqb, to_z}
+use Rattle.std.proofs.Common.{ap, sym, ◌∙◌, drop-drop, arith, eqb-true, ne_eqb}
 use Rattle.std.specs.Float.{binary32}
 use Rattle.std.specs.Float.Ieee.{of_int}
 use Rattle.std.proofs.lemmas.List.{length-map, length-replicate}
@@ -21,9 +21,7 @@ use Rattle.plan.specs.declared.Act.{Act}
 use Rattle.plan.specs.declared.Decode.{Decode}
 use Rattle.plan.specs.declared.Decode.TheVariants.{Nothing, Pcm, Adpcm, Silence}
 use Rattle.plan.specs.Fits.{want_of, made_of, reads_of, formed_of}
-use Rattle.std.specs.Int.{w16}
-use Rattle.fields.specs.Fields.{field_at}
-use Rattle.sound.specs.Fill.{tab, length_tab}
+use Rattle.sound.specs.Fill.{length_tab}
 use Rattle.sound.specs.Sound.{pcm_of, Deck, decode_adpcm, decode_on, perform}
 
 -- a channel that has no samples yet

@@ -1,7 +1,6 @@
 -- `sound::coefficients` meets its contract, by whether they can be read. Assumes nothing.
 use mathlib.Core.Bool.{Bool}
 use mathlib.Core.Path.{sym, ap, ◌∙◌}
-use borrow.Author.Rules.{rules}
 use Rattle.plan.specs.Source.{over}
 use Rattle.sound.specs.Sound.{table_of}
 use Rattle.sound.proofs.coefficients.Goals as goal

@@ -1,5 +1,5 @@
 -- `turn::begin` meets its contract: it prepares the voice that is fresh no longer, whose slots are as they were. Assumes nothing.
-use Rattle.std.proofs.Common.{◌<◌, sym, refl, ap, ◌∙◌, subst, rules}
+use Rattle.std.proofs.Common.{◌<◌, sym, refl, ap, ◌∙◌, subst}
 use Rattle.voice.specs.declared.Voice.{Voice}
 use Rattle.voice.specs.Prepare.{prepare_of}
 use Rattle.turn.specs.Turn.{begin_of}

@@ -1,5 +1,4 @@
 -- `turn::finish` meets its contract: what it stores is no part of the queue. Assumes nothing.
-use Rattle.std.proofs.Common.{rules}
 use Rattle.voice.specs.Voice.{queue_of}
 use Rattle.turn.specs.Turn.{with}
 use Rattle.turn.proofs.finish.Goals as goal

@@ -1,5 +1,4 @@
 -- `turn::next_fraction` meets its contract: the same operations in the same order. Assumes nothing.
-use Rattle.std.proofs.Common.{rules}
 use Rattle.resample.specs.Defs.{pos_at, next_of}
 use Rattle.turn.proofs.next_fraction.Goals as goal
 

@@ -1,5 +1,5 @@
 -- `turn::plan_turn` meets its contract: what the calls give, put together, is the turn. Assumes nothing.
-use Rattle.std.proofs.Common.{◌<◌, ◌≤◌, sym, subst, arith, rules}
+use Rattle.std.proofs.Common.{◌<◌, ◌≤◌, sym, subst, arith}
 use Rattle.voice.specs.declared.queue.Queue.{Queue}
 use Rattle.plan.specs.Source.{Source}
 use Rattle.turn.specs.Render.{render_over}

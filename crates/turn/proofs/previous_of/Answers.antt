@@ -1,5 +1,5 @@
 -- `turn::previous_of` meets its contract: each way out is a case of the test. Assumes nothing.
-use Rattle.std.proofs.Common.{sym, ◌∙◌, rules}
+use Rattle.std.proofs.Common.{sym, ◌∙◌}
 use Rattle.turn.specs.Turn.{previous_of}
 use Rattle.turn.proofs.previous_of.Goals as goal
 

@@ -1,5 +1,5 @@
 -- `turn::ratio` meets its contract: by whether the voice's rate is converted. Assumes nothing.
-use Rattle.std.proofs.Common.{cond, sym, ◌∙◌, rules}
+use Rattle.std.proofs.Common.{cond, sym, ◌∙◌}
 use lib.Ieee.{of_bits}
 use Rattle.floats.specs.Defs.{one, ratio_of as clamp_ratio}
 use Rattle.turn.specs.Turn.{speed_of, ratio_of}

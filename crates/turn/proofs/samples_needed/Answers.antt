@@ -1,5 +1,5 @@
 -- `turn::samples_needed` meets its contract: by the voice's own ratio. Assumes nothing.
-use Rattle.std.proofs.Common.{◌∙◌, rules}
+use Rattle.std.proofs.Common.{◌∙◌}
 use Rattle.resample.specs.Defs.{needed_of}
 use Rattle.turn.specs.Turn.{needed_by}
 use Rattle.turn.proofs.samples_needed.Goals as goal

@@ -1,5 +1,4 @@
 -- `turn::speed` meets its contract: the same operations in the same order. Assumes nothing.
-use Rattle.std.proofs.Common.{rules}
 use Rattle.turn.specs.Turn.{speed_of}
 use Rattle.turn.proofs.speed.Goals as goal
 

@@ -1,5 +1,5 @@
 -- `voice_records::fill` meets its contract: each field is what its call gives, or the voice's. Assumes nothing.
-use Rattle.std.proofs.Common.{ℕ, ◌%◌, true, ap, ◌∙◌, rules}
+use Rattle.std.proofs.Common.{ℕ, ◌%◌, true, ap, ◌∙◌}
 use Rattle.voice.specs.Play.{set_play}
 use Rattle.voice_records.specs.Record.{recorded_buffers, filled}
 use Rattle.voice_records.proofs.fill.Goals as goal

@@ -1,6 +1,5 @@
 -- `voice_records::renew` meets its contract: each way out is a case of the test. Assumes nothing.
 use Rattle.voice_records.specs.Record.{renewed}
-use Rattle.std.proofs.Common.{rules}
 use Rattle.voice_records.proofs.renew.Goals as goal
 
 pub returns-then-new : goal.returns-then-new

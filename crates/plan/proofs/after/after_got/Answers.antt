@@ -1,5 +1,5 @@
 -- `plan::after_got` meets its contract: the calls give the parts of `afterGot`, by whether the span is over. Assumes nothing.
-use Rattle.std.proofs.Common.{sym, refl, ◌∙◌, rules}
+use Rattle.std.proofs.Common.{sym, refl, ◌∙◌}
 use Rattle.voice.specs.Queue.{queue_at}
 use Rattle.plan.specs.Laws.{got_made}
 use Rattle.plan.proofs.after.after_got.Goals as goal

@@ -1,5 +1,5 @@
 -- `plan::after_loop` meets its contract: the calls give the parts of `afterLoop`. Assumes nothing.
-use Rattle.std.proofs.Common.{sym, ◌∙◌, rules}
+use Rattle.std.proofs.Common.{sym, ◌∙◌}
 use Rattle.voice.specs.Queue.{queue_at}
 use Rattle.plan.specs.Laws.{loop_made}
 use Rattle.plan.proofs.after.after_loop.Goals as goal

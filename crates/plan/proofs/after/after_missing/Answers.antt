@@ -1,5 +1,4 @@
 -- `plan::after_missing` meets its contract: it ends the buffer at offset 0. Assumes nothing.
-use Rattle.std.proofs.Common.{rules}
 use Rattle.plan.specs.Rounds.{after_missing}
 use Rattle.plan.proofs.after.after_missing.Goals as goal
 

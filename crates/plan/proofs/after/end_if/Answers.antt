@@ -1,5 +1,4 @@
 -- `plan::end_if` meets its contract: each way out is a case of the test. Assumes nothing.
-use Rattle.std.proofs.Common.{rules}
 use Rattle.plan.proofs.after.end_if.Goals as goal
 
 pub returns-then-over : goal.returns-then-over

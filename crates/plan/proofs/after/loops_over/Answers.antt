@@ -1,6 +1,5 @@
 -- `plan::loops_over` meets its contract: each way out is a case of the tests. Assumes nothing.
 use Rattle.std.proofs.Common.{le-ltb, lt-ltb, eq-eqb, ne_eqb}
-use borrow.Author.Tests.{not-true, not-false}
 use Rattle.plan.specs.Rounds.{loops_over}
 use Rattle.plan.proofs.after.loops_over.Goals as goal
 

@@ -1,5 +1,5 @@
 -- `plan::plan_adpcm` meets its contract: the calls give the parts of `adpcmPlan`, by whether there are bytes, whether they can be read and whether they hold samples. Assumes nothing.
-use Rattle.std.proofs.Common.{◌≡◌, ℕ, ◌+◌, ◌-◌, ◌/◌, min, sym, refl, ◌∙◌, arith, rules, eq-eqb, ne_eqb}
+use Rattle.std.proofs.Common.{◌≡◌, ℕ, ◌+◌, ◌-◌, ◌/◌, min, sym, refl, ◌∙◌, arith, eq-eqb, ne_eqb}
 use Rattle.adpcm.specs.Places.{nibble_of, size_of, nibble_le}
 use Rattle.plan.specs.Laws.{adpcm_made}
 use Rattle.plan.specs.Source.{over}

@@ -1,5 +1,5 @@
 -- `plan::plan_decode` meets its contract: each way out is a case of the format. Assumes nothing.
-use Rattle.std.proofs.Common.{◌∙◌, rules}
+use Rattle.std.proofs.Common.{◌∙◌}
 use Rattle.plan.specs.Laws.{decode_none, decode_pcm16, decode_float, decode_adpcm_lem, decode_other}
 use Rattle.plan.specs.Source.{over}
 use Rattle.plan.proofs.attempt.plan_decode.Goals as goal

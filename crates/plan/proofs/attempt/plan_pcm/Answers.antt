@@ -1,5 +1,5 @@
 -- `plan::plan_pcm` meets its contract: the calls give the parts of `pcmPlan`, by whether there are frames and whether they can be read. Assumes nothing.
-use Rattle.std.proofs.Common.{◌*◌, ◌^◌, ◌<◌, ◌≤◌, sym, refl, ◌∙◌, mul-le-mul, mul-pos, arith, rules, eq-eqb, ne_eqb}
+use Rattle.std.proofs.Common.{◌*◌, ◌^◌, ◌<◌, ◌≤◌, sym, refl, ◌∙◌, mul-le-mul, mul-pos, arith, eq-eqb, ne_eqb}
 use Rattle.plan.specs.Laws.{pcm_made}
 use Rattle.plan.specs.Source.{over}
 use Rattle.plan.proofs.attempt.plan_pcm.Goals as goal

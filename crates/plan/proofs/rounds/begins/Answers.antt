@@ -1,6 +1,5 @@
 -- `plan::begins` meets its contract: each way out is a case of the tests. Assumes nothing.
-use Rattle.std.proofs.Common.{rules, le-ltb, lt-ltb}
-use borrow.Author.Tests.{not-true, not-false}
+use Rattle.std.proofs.Common.{le-ltb, lt-ltb}
 use Rattle.plan.specs.Rounds.{more}
 use Rattle.plan.proofs.rounds.begins.Goals as goal
 

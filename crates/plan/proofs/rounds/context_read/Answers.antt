@@ -1,5 +1,5 @@
 -- `plan::context_read` meets its contract: each way out is a case of the tests. Assumes nothing.
-use Rattle.std.proofs.Common.{rules, eq-eqb, ne_eqb}
+use Rattle.std.proofs.Common.{eq-eqb, ne_eqb}
 use Rattle.plan.specs.Rounds.{renews_of}
 use Rattle.plan.proofs.rounds.context_read.Goals as goal
 

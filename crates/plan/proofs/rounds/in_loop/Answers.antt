@@ -1,6 +1,5 @@
 -- `plan::in_loop` meets its contract: each way out is a case of the tests. Assumes nothing.
-use Rattle.std.proofs.Common.{sym, rules, eq-eqb, ne_eqb}
-use borrow.Author.Tests.{not-true, not-false}
+use Rattle.std.proofs.Common.{sym, eq-eqb, ne_eqb}
 use Rattle.plan.specs.Rounds.{in_loop}
 use Rattle.plan.proofs.rounds.in_loop.Goals as goal
 

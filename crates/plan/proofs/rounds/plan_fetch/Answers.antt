@@ -1,9 +1,9 @@
 -- `plan::plan_fetch` meets its contract. The loop's invariant: the rounds that are left, done, give the whole plan. Assumes nothing.
-use Rattle.std.proofs.Common.{◌-◌, [], refl, ap, ◌∙◌, ⊎_elim, arith, rules}
+use Rattle.std.proofs.Common.{[], refl, ap, ◌∙◌, arith}
 use Rattle.voice.specs.Queue.{queue_at}
 use Rattle.plan.specs.Source.{over}
 use Rattle.plan.specs.Rounds.{plan_of, without_acts}
-use Rattle.plan.specs.Fetch.{Walking, plan_begin, round_upto, round_index, plan_more, plan_full, plan_stop}
+use Rattle.plan.specs.Fetch.{plan_begin, round_upto, round_index, plan_more, plan_full, plan_stop}
 use Rattle.plan.proofs.rounds.plan_fetch.Goals as goal
 use Rattle.plan.proofs.rounds.plan_fetch.Goals.{then-loop-rounds-test+else-going, else-loop-rounds-test}
 
@@ -34,7 +34,7 @@ returns c =
     (λ i. record { queue = c.queue_at.ensures i; rounds = c.loop-rounds.rounds; done = c.loop-rounds.done; table = c.table_read.ensures i })
     ∙ ap without_acts
     (elim c.loop-rounds-test.branch [
-      then-loop-rounds-test+else-going w ↦ plan_stop p w.if-going.false
+      | then-loop-rounds-test+else-going w ↦ plan_stop p w.if-going.false
       | else-loop-rounds-test w ↦ plan_full p w.loop-rounds-test.false
     ])
     ∙ (λ i. without_acts (plan_of (queue_at c.args.q.buffers (c.spot_of-spot.ensures i)) (over c.args.s c.args.ranges.now) c.args.count))

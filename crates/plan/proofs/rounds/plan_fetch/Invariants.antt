@@ -1,8 +1,7 @@
-use Rattle.std.proofs.Common.{◌-◌, [], refl, ap, ◌∙◌, ⊎_elim, arith, rules}
+use Rattle.std.proofs.Common.{◌-◌}
 use Rattle.voice.specs.Queue.{queue_at}
 use Rattle.plan.specs.Source.{over}
-use Rattle.plan.specs.Rounds.{plan_of, without_acts}
-use Rattle.plan.specs.Fetch.{Walking, plan_begin, round_upto, round_index, plan_more, plan_full, plan_stop}
+use Rattle.plan.specs.Fetch.{Walking}
 use Rattle.plan.proofs.rounds.plan_fetch.Given as goal
 
 abbrev pub invariant-loop-rounds : goal.invariant-loop-rounds

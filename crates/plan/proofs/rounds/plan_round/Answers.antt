@@ -1,5 +1,5 @@
 -- `plan::plan_round` meets its contract: the calls give the parts of `roundPlan`, by whether the decode is missing. Assumes nothing.
-use Rattle.std.proofs.Common.{◌≡◌, ℕ, List, get_or, ◌∙◌, rules}
+use Rattle.std.proofs.Common.{◌≡◌, ℕ, List, get_or, ◌∙◌}
 use Rattle.voice.specs.Queue.{no_buffer, queue_at}
 use Rattle.voice.specs.declared.wave.WaveBuffer.{WaveBuffer}
 use Rattle.voice.specs.declared.queue.Queue.{Queue}

@@ -9,14 +9,17 @@ use Rattle.rows.specs.Lent.{rest_lent, rest_returned}
 use Rattle.sound.proofs.act.play.Goals as goal
 
 pub play_decode-requires : goal.play_decode-requires
-play_decode-requires c = record { room = record {
-        memory = c.requires.room_at.memory;
-        channels = c.requires.room_at.channels;
-        want = search rules;
-        few = c.requires.room_at.few;
-        reads = c.requires.room_at.reads;
-        formed = c.requires.room_at.formed;
-      }; c_lt_channels = c.requires.c_lt_channels }
+play_decode-requires c = record {
+  room = record {
+    memory = c.requires.room_at.memory;
+    channels = c.requires.room_at.channels;
+    want = search rules;
+    few = c.requires.room_at.few;
+    reads = c.requires.room_at.reads;
+    formed = c.requires.room_at.formed;
+  };
+  c_lt_channels = c.requires.c_lt_channels;
+}
 
 pub returns : goal.returns
 returns c =

@@ -2,7 +2,6 @@
 use Prim.Native.Nat.{◌+◌, ◌/◌, ◌≤◌, ◌<◌, ◌^◌}
 use mathlib.Core.Path.{refl}
 use native.Mathlib.Omega.{arith}
-use borrow.Author.Rules.{rules}
 use Rattle.ranges.specs.Ranges.{ranges_of}
 use Rattle.memory.proofs.Bytes.{length_read}
 use Rattle.adpcm.specs.Runs.{count_le}

@@ -1,5 +1,4 @@
 -- `sound::play_decode` meets its contract: each arm is a case of the decode. Assumes nothing.
-use borrow.Author.Rules.{rules}
 use Rattle.plan.specs.Source.{over}
 use Rattle.sound.specs.Perform.{room_is, on_nothing, on_pcm, on_adpcm, on_silence}
 use Rattle.sound.proofs.act.play_decode.Goals as goal

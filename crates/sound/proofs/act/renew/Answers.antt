@@ -1,5 +1,4 @@
 -- `sound::renew` meets its contract: the context that is read, or the old one. Assumes nothing.
-use borrow.Author.Rules.{rules}
 use Rattle.sound.proofs.act.renew.Goals as goal
 
 pub returns-then-renews : goal.returns-then-renews

@@ -1,16 +1,14 @@
 -- `sound::fetch_channel` meets its contract: after each round, the samples so far are what the acts so far make. Assumes nothing.
 use Prim.Native.Nat.{ℕ, ◌-◌, ◌≤◌}
-use mathlib.Core.Logic.{⊎_elim}
 use mathlib.Core.Path.{◌≡◌, refl, ap, sym, subst}
 use native.Mathlib.Omega.{arith}
-use borrow.Author.Rules.{rules}
 use lib.ListN.{length, length-set}
 use Rattle.voice.specs.declared.queue.Spot.{Spot}
 use Rattle.voice.specs.Queue.{queue_at}
 use Rattle.plan.specs.Source.{over}
 use Rattle.plan.specs.Fetch.{round_upto, round_index, plan_full, plan_stop}
-use Rattle.sound.specs.Channel.{Ready, FetchedBy, Playing, headed, length_headed}
-use Rattle.sound.specs.Channel.{going_none, going_place, going_room, going_more, going_same, going_end}
+use Rattle.sound.specs.Channel.{Ready, FetchedBy, headed, length_headed}
+use Rattle.sound.specs.Channel.{going_none, going_place, going_room, going_more, going_end}
 use Rattle.sound.proofs.channel.fetch_channel.Goals as goal
 use Rattle.sound.proofs.channel.fetch_channel.Goals.{then-loop-rounds-test+else-going, else-loop-rounds-test}
 use Rattle.sound.proofs.channel.fetch_channel.Goals.{After-spot_of-spot, Start}
@@ -102,7 +100,7 @@ returns c =
     c.zeros_from.new.out c.loop-rounds.x)
     c.spot_of-spot.ensures (going_end c.args.history (ready (goal.at.returns c).After-spot_of-spot) c.loop-rounds.invariant (three (goal.at.returns c).Start)
     (elim c.loop-rounds-test.branch [
-      then-loop-rounds-test+else-going w ↦ plan_stop p w.if-going.false
+      | then-loop-rounds-test+else-going w ↦ plan_stop p w.if-going.false
       | else-loop-rounds-test w ↦ plan_full p w.loop-rounds-test.false
     ])
     c.zeros_from.ensures)

@@ -1,15 +1,7 @@
-use Prim.Native.Nat.{ℕ, ◌-◌, ◌≤◌}
-use mathlib.Core.Logic.{⊎_elim}
-use mathlib.Core.Path.{◌≡◌, refl, ap, sym, subst}
-use native.Mathlib.Omega.{arith}
-use borrow.Author.Rules.{rules}
-use lib.ListN.{length, length-set}
-use Rattle.voice.specs.declared.queue.Spot.{Spot}
+use Prim.Native.Nat.{◌-◌}
 use Rattle.voice.specs.Queue.{queue_at}
 use Rattle.plan.specs.Source.{over}
-use Rattle.plan.specs.Fetch.{round_upto, round_index, plan_full, plan_stop}
-use Rattle.sound.specs.Channel.{Ready, FetchedBy, Playing, headed, length_headed}
-use Rattle.sound.specs.Channel.{going_none, going_place, going_room, going_more, going_same, going_end}
+use Rattle.sound.specs.Channel.{Playing}
 use Rattle.sound.proofs.channel.fetch_channel.Given as goal
 
 abbrev pub invariant-loop-rounds : goal.invariant-loop-rounds

@@ -1,11 +1,10 @@
 -- `sound::all_frames` meets its contract: after each turn the frames so far are made. Assumes nothing.
-use Prim.Native.Nat.{◌-◌, ◌*◌, ◌≤◌}
+use Prim.Native.Nat.{◌*◌, ◌≤◌}
 use native.Mathlib.Omega.{arith}
-use borrow.Author.Rules.{rules}
 use Rattle.ranges.specs.Ranges.{ranges_of}
 use Rattle.across.specs.Lengths.{frame_bytes}
-use Rattle.sound.proofs.Stretches.{frame_le, FramesAsked, Reached}
-use Rattle.sound.proofs.Stretches.{reached_none, reached_length, reached_inside, reached_room, reached_near}
+use Rattle.sound.proofs.Stretches.{frame_le, FramesAsked}
+use Rattle.sound.proofs.Stretches.{reached_none, reached_inside, reached_room, reached_near}
 use Rattle.sound.proofs.Stretches.{reached_left, reached_more, reached_all}
 use Rattle.sound.proofs.pcm.all_frames.Goals as goal
 use Rattle.sound.proofs.pcm.all_frames.Goals.{Start}

@@ -1,11 +1,6 @@
-use Prim.Native.Nat.{◌-◌, ◌*◌, ◌≤◌}
-use native.Mathlib.Omega.{arith}
-use borrow.Author.Rules.{rules}
+use Prim.Native.Nat.{◌-◌}
 use Rattle.ranges.specs.Ranges.{ranges_of}
-use Rattle.across.specs.Lengths.{frame_bytes}
-use Rattle.sound.proofs.Stretches.{frame_le, FramesAsked, Reached}
-use Rattle.sound.proofs.Stretches.{reached_none, reached_length, reached_inside, reached_room, reached_near}
-use Rattle.sound.proofs.Stretches.{reached_left, reached_more, reached_all}
+use Rattle.sound.proofs.Stretches.{Reached}
 use Rattle.sound.proofs.pcm.all_frames.Given as goal
 
 abbrev pub invariant-loop-done : goal.invariant-loop-done

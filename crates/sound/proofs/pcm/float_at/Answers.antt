@@ -1,6 +1,5 @@
 -- `sound::float_at` meets its contract: a float, times a constant. Assumes nothing.
 use mathlib.Core.Bool.{false}
-use borrow.Author.Rules.{rules}
 use lib.IntN.{pos}
 use lib.Ieee.{binary32, fin, mul, of_bits}
 use Rattle.sound.specs.Sound.{pcm_at}

@@ -1,9 +1,7 @@
 -- `sound::frames` meets its contract, for either width: after each turn the front is filled with the samples of one channel. Assumes nothing.
-use Prim.Native.Nat.{ℕ, ◌+◌, ◌*◌, ◌-◌}
 use mathlib.Core.Path.{◌∙◌}
 use native.Mathlib.Omega.{arith}
-use borrow.Author.Rules.{rules}
-use Rattle.sound.specs.Fill.{Filled, filled_none, filled_length, filled_more, filled_all}
+use Rattle.sound.specs.Fill.{filled_none, filled_length, filled_more, filled_all}
 use Rattle.sound.specs.Perform.{wide_le}
 use Rattle.sound.specs.Sound.{pcm_at, pcm_of}
 use Rattle.sound.proofs.pcm.frames.Goals as goal

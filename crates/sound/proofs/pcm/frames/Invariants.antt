@@ -1,10 +1,6 @@
 use Prim.Native.Nat.{ℕ, ◌+◌, ◌*◌, ◌-◌}
-use mathlib.Core.Path.{◌∙◌}
-use native.Mathlib.Omega.{arith}
-use borrow.Author.Rules.{rules}
-use Rattle.sound.specs.Fill.{Filled, filled_none, filled_length, filled_more, filled_all}
-use Rattle.sound.specs.Perform.{wide_le}
-use Rattle.sound.specs.Sound.{pcm_at, pcm_of}
+use Rattle.sound.specs.Fill.{Filled}
+use Rattle.sound.specs.Sound.{pcm_at}
 use Rattle.sound.proofs.pcm.frames.Given as goal
 
 abbrev pub invariant-loop-j : goal.invariant-loop-j

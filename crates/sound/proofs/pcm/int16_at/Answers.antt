@@ -1,7 +1,6 @@
 -- `sound::int16_at` meets its contract: the number that two bytes are, which a float holds. Assumes nothing.
 use mathlib.Core.Path.{ap, ◌∙◌}
 use native.Mathlib.Omega.{arith}
-use borrow.Author.Rules.{rules}
 use lib.Ieee.{binary32, of_int}
 use mir.Facts.{to_z-of_z}
 use mir.Val.{to_z}

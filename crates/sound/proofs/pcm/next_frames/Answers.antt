@@ -4,7 +4,6 @@ use mathlib.Core.List.{◌++◌}
 use mathlib.Core.Path.{◌≡◌, refl, ap, sym, subst, ◌∙◌}
 use native.Mathlib.Nat.{one-mul, min-le_left, min-le_right, mul-le-mul_right, div-mul-le_self}
 use native.Mathlib.Omega.{arith}
-use borrow.Author.Rules.{rules}
 use lib.ListN.{drop}
 use Rattle.ranges.specs.Ranges.{ranges_of, readable_of}
 use Rattle.memory.specs.Memory.{read_of}
@@ -65,10 +64,13 @@ straddling_frame-requires c =
 
 pub returns-then-whole-eq0 : goal.returns-then-whole-eq0
 returns-then-whole-eq0 c =
-    let one = sym (one-mul (frame (goal.at.returns-then-whole-eq0 c).Start)) in record { result_nonzero = (omega arith, omega (arith, c.requires.channels_bound.2)); out_after = c.straddling_frame.ensures
+    let one = sym (one-mul (frame (goal.at.returns-then-whole-eq0 c).Start)) in record {
+      result_nonzero = (omega arith, omega (arith, c.requires.channels_bound.2));
+      out_after = c.straddling_frame.ensures
           ∙ (λ i.
           pcm_of c.args.width c.args.channels c.args.c (read_of (ranges_of c.args.ranges.now) c.args.memory.now c.args.addr (one i)) 1
-          ++ drop 1 c.args.out.now) }
+          ++ drop 1 c.args.out.now);
+    }
 
 pub overflow_mul-end : goal.overflow_mul-end
 overflow_mul-end c = omega (arith, (whole (goal.at.overflow_mul-end c).After-whole_frames-whole).1)
@@ -84,5 +86,8 @@ frames-requires c = record { width_value = c.requires.width_value; channels_boun
 
 pub returns : goal.returns
 returns c =
-    let n = c.whole_frames-whole.result in record { result_nonzero = (omega arith, (whole (goal.at.returns c).After-whole_frames-whole).0); out_after = c.frames.ensures
-          ∙ (λ i. pcm_of c.args.width c.args.channels c.args.c ((lying (goal.at.returns c).After-whole_frames-whole).bytes refl i) n ++ drop n c.args.out.now) }
+    let n = c.whole_frames-whole.result in record {
+      result_nonzero = (omega arith, (whole (goal.at.returns c).After-whole_frames-whole).0);
+      out_after = c.frames.ensures
+          ∙ (λ i. pcm_of c.args.width c.args.channels c.args.c ((lying (goal.at.returns c).After-whole_frames-whole).bytes refl i) n ++ drop n c.args.out.now);
+    }

@@ -1,6 +1,5 @@
 -- `sound::sample_at` meets its contract: one function for each width. Assumes nothing.
 use mathlib.Core.Path.{sym, ◌∙◌}
-use borrow.Author.Rules.{rules}
 use Rattle.sound.specs.Sound.{pcm_at}
 use Rattle.sound.specs.Perform.{four_wide}
 use Rattle.sound.proofs.pcm.sample_at.Goals as goal

@@ -1,6 +1,5 @@
 -- `sound::whole_frames` meets its contract: the lesser of two counts. Assumes nothing.
 use native.Mathlib.Omega.{arith}
-use borrow.Author.Rules.{rules}
 use Rattle.sound.proofs.pcm.whole_frames.Goals as goal
 
 pub returns-then-whole-n : goal.returns-then-whole-n

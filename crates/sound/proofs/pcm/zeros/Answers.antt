@@ -1,13 +1,11 @@
 -- `sound::zeros` meets its contract: after each turn the front is filled. Assumes nothing.
-use Prim.Native.Nat.{ℕ, ◌+◌, ◌-◌}
 use mathlib.Core.Path.{refl, ap, ◌∙◌}
 use mathlib.Core.List.{List, ◌++◌}
 use native.Mathlib.Omega.{arith}
-use borrow.Author.Rules.{rules}
 use lib.Ieee.{of_bits, Float}
 use lib.ListN.{drop}
 use Rattle.floats.specs.Defs.{zero32}
-use Rattle.sound.specs.Fill.{Filled, filled_none, filled_length, filled_more, filled_all, tab_same}
+use Rattle.sound.specs.Fill.{filled_none, filled_length, filled_more, filled_all, tab_same}
 use Rattle.sound.proofs.pcm.zeros.Goals as goal
 
 pub loop-j-init : goal.loop-j-init

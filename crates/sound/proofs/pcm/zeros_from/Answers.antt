@@ -1,6 +1,5 @@
 -- `sound::zeros_from` meets its contract: zeros fill the whole of the part. Assumes nothing.
 use Prim.Native.Nat.{◌-◌}
-use borrow.Author.Rules.{rules}
 use lib.ListN.{length, replicate}
 use Rattle.floats.specs.Defs.{zero32}
 use Rattle.rows.specs.Lent.{rest_filled}

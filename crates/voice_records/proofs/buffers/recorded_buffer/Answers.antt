@@ -1,5 +1,5 @@
 -- `voice_records::recorded_buffer` meets its contract: each way out is a case of the two tests. Assumes nothing.
-use Rattle.std.proofs.Common.{◌≡◌, Bool, true, false, cond, rules}
+use Rattle.std.proofs.Common.{◌≡◌, Bool, true, false, cond}
 use Rattle.voice_records.specs.Record.{recorded_buffer}
 use Rattle.voice_records.specs.Made.{buffer_tried, buffer_sent}
 use Rattle.voice_records.proofs.buffers.recorded_buffer.Goals as goal

@@ -1,6 +1,5 @@
 -- `voice_records::recorded_buffers` meets its contract: one call for each buffer. Assumes nothing.
 use Rattle.voice_records.specs.Made.{buffers_made}
-use Rattle.std.proofs.Common.{rules}
 use Rattle.voice_records.proofs.buffers.recorded_buffers.Goals as goal
 
 pub returns : goal.returns

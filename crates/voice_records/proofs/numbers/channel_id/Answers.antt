@@ -1,5 +1,5 @@
 -- `voice_records::channel_id` meets its contract: each way out is a case of the minimum. Assumes nothing.
-use Rattle.std.proofs.Common.{arith, rules}
+use Rattle.std.proofs.Common.{arith}
 use Rattle.voice_records.specs.Record.{channel_id}
 use Rattle.voice_records.proofs.numbers.channel_id.Goals as goal
 

@@ -1,6 +1,5 @@
 -- `voice_records::channel_ids` meets its contract: one call for each channel. Assumes nothing.
 use Rattle.voice_records.specs.Made.{ids_made}
-use Rattle.std.proofs.Common.{rules}
 use Rattle.voice_records.proofs.numbers.channel_ids.Goals as goal
 
 pub returns : goal.returns

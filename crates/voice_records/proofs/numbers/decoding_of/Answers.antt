@@ -1,7 +1,6 @@
 -- `voice_records::decoding_of` meets its contract: each way out is a case of the revision. Assumes nothing.
 use Rattle.voice_records.specs.Record.{decoding_of}
 use Rattle.voice_records.specs.Made.{since_new, since_old}
-use Rattle.std.proofs.Common.{rules}
 use Rattle.voice_records.proofs.numbers.decoding_of.Goals as goal
 
 pub returns-then-revision-ge5 : goal.returns-then-revision-ge5

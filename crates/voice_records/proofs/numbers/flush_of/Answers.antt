@@ -1,5 +1,5 @@
 -- `voice_records::flush_of` meets its contract: each way out is a case of the revision. Assumes nothing.
-use Rattle.std.proofs.Common.{◌∙◌, rules}
+use Rattle.std.proofs.Common.{◌∙◌}
 use Rattle.voice_records.specs.Record.{flush_of}
 use Rattle.voice_records.specs.Made.{since_new, since_old}
 use Rattle.voice_records.proofs.numbers.flush_of.Goals as goal

@@ -1,7 +1,6 @@
 -- `voice_records::splitter_of` meets its contract: each way out is a case of the revision. Assumes nothing.
 use Rattle.voice_records.specs.Record.{splitter_of}
 use Rattle.voice_records.specs.Made.{since_new, since_old}
-use Rattle.std.proofs.Common.{rules}
 use Rattle.voice_records.proofs.numbers.splitter_of.Goals as goal
 
 pub returns-then-revision-ge2 : goal.returns-then-revision-ge2
