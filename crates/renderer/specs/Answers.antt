@@ -2,7 +2,6 @@
 use Rattle.std.specs.Prelude.{List, ℕ, Float}
 use Rattle.state.specs.State.{State}
 use Rattle.calls.specs.Calls.{LengthsOutcome, lengths_refused, LengthOutcome, length_left, OpenOutcome, open_left, UpdateOutcome, update_left, RenderOutcome, render_left, OrderOutcome}
-use Rattle.renderer.specs.declared.answers.Lengths.{Lengths}
 use Rattle.renderer.specs.declared.answers.LengthsAnswer.{LengthsAnswer}
 use Rattle.renderer.specs.declared.answers.LengthsAnswer.TheVariants as of_lengths
 use Rattle.renderer.specs.declared.answers.ReplyLengthAnswer.{ReplyLengthAnswer}

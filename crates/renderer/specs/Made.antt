@@ -1,7 +1,7 @@
 -- What a call leaves, by the first question that is answered "no". Assumes nothing.
-use Rattle.std.specs.Prelude.{◌≡◌, Bool, true, false, cond, not, List, ℕ, ◌*◌, ◌≤◌, ◌<◌, leb, Float, length, replicate}
+use Rattle.std.specs.Prelude.{◌≡◌, Bool, true, false, not, List, ℕ, ◌*◌, ◌≤◌, ◌<◌, Float, length, replicate}
 use Rattle.std.proofs.Math.Path.{ap}
-use Rattle.std.proofs.Common.{sym, ◌∙◌, arith}
+use Rattle.std.proofs.Common.{sym, ◌∙◌}
 use borrow.Author.Tests.{le-leb, lt-leb, not-true, not-false}
 use Rattle.rows.specs.Rows.{put}
 use Rattle.ranges.specs.Ranges.{Range}
@@ -16,11 +16,11 @@ use Rattle.whole.specs.Counts.{samples_allowed, counts_allowed, allowed_facts}
 use Rattle.whole.specs.Whole.{sized_of, whole_of, sized_facts}
 use Rattle.opened.specs.Opened.{opened}
 use Rattle.updates.specs.Update.{updated, update_reply}
-use Rattle.render.specs.Render.{Rendered, rendered, rendered_by}
+use Rattle.render.specs.Render.{rendered, rendered_by}
 use Rattle.desk_order.specs.declared.listed.MixOrder.{MixOrder}
 use Rattle.desk_order.specs.Listed.{listed_of}
 use Rattle.desk_render.specs.DeskRender.{order_by}
-use Rattle.calls.specs.Calls.{OrderOutcome, lengths_refused, lengths_given, lengths_call, length_left, reply_length_call, open_left, open_call, update_left, update_done, update_call, render_left, render_done, render_call, order_given, order_refused, order_call}
+use Rattle.calls.specs.Calls.{OrderOutcome, lengths_refused, lengths_given, lengths_call, length_left, reply_length_call, open_left, open_call, update_left, update_done, update_call, render_left, render_done, render_call, order_given, order_call}
 
 -- a test t that its function answered by r
 pub passed : {t r : Bool} → r ≡ t → not r ≡ false → t ≡ true

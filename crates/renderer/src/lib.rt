@@ -3,7 +3,7 @@
 #![tactic(auto)]
 
 mod answers;
-mod section;
+mod sections;
 
 ghost use Rattle.std.specs.Prelude.{◌≡◌};
 ghost use Rattle.ranges.specs.Ranges.{ranges_of};
@@ -17,7 +17,7 @@ pub use answers::{
 };
 use desk_order::MixOrder;
 use params::Params;
-pub use section::render_section;
+pub use sections::render_section;
 
 // How long the slices of a renderer with these parameters must be.
 pub fn lengths(p: Params) -> LengthsAnswer
