@@ -1,5 +1,5 @@
 -- The channels of a voice, one after the other: what is kept and what is heard after each. Assumes nothing.
-use Prim.Native.Nat.{ℕ, zero, suc, ◌+◌, ◌-◌, ◌*◌, ◌≤◌, ◌<◌}
+use Prim.Native.Nat.{ℕ, zero, suc, ◌+◌, ◌*◌, ◌≤◌, ◌<◌}
 use Rattle.std.proofs.Common.{arith, add-one, sym, ◌∙◌, ne_eqb}
 use Rattle.std.specs.Prelude.{cond, List, ◌≡◌, eqb, ℤ, Float, length}
 use Rattle.std.proofs.Math.Path.{refl, ap}

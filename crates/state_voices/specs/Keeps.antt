@@ -1,18 +1,18 @@
 -- What a step at voice k leaves of a state. Assumes nothing.
 use Rattle.std.specs.Prelude.{◌≡◌, Bool, ◌⊎◌, List, ℕ, ◌+◌, ◌*◌, ◌≤◌, ◌<◌, Float, length}
 use Rattle.std.proofs.Math.Path.{refl, ap}
-use Rattle.std.proofs.Common.{sym, subst, ◌∙◌, inl, inr, ⊎_elim, arith}
+use Rattle.std.proofs.Common.{sym, subst, ◌∙◌, inl, inr, arith}
 use Rattle.std.proofs.Math.Bool.{true, false}
-use Rattle.rows.specs.Rows.{part, put, length_part}
+use Rattle.rows.specs.Rows.{part, length_part}
 use Rattle.params.specs.declared.params.Params.{Params}
-use Rattle.state.specs.State.{State, Sized, mix_words, resource_floats, resources_in}
+use Rattle.state.specs.State.{State, Sized, mix_words, resources_in}
 use Rattle.voice.specs.declared.Voice.{Voice}
 use Rattle.voice.specs.declared.sound.Sound.{Sound}
 use Rattle.voice.specs.declared.ready.Prepared.{Prepared}
 use Rattle.voice.specs.Sound.{silent_sound}
 use Rattle.voice_rows.specs.VoiceRow.{voice_of, words_of, longs_of, floats_of, length_words, length_longs, length_floats}
 use Rattle.sound_rows.specs.SoundRow.{contexts_of, history_of, length_contexts}
-use Rattle.voice_sends.specs.Sending.{Ids, taken_over}
+use Rattle.voice_sends.specs.Sending.{taken_over}
 use Rattle.voice_sends.specs.Laws.{length_taken_over}
 use Rattle.state_voices.specs.StateVoices.{voice_on, voice_in, put_voice, put_sound, with_floats, fresh_floats, taken, reset_by, unready, Playing}
 use Rattle.state_voices.specs.Rows.{put_length, put_apart, before_or_after}

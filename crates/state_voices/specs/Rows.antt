@@ -1,5 +1,5 @@
 -- Rows of one voice in a state of the right lengths: they are there, and apart from every other voice's. Assumes nothing.
-use Rattle.std.specs.Prelude.{◌≡◌, refl, ◌⊎◌, List, ℕ, zero, suc, ◌+◌, ◌*◌, ◌≤◌, ◌<◌, length}
+use Rattle.std.specs.Prelude.{◌≡◌, refl, ◌⊎◌, List, ℕ, zero, suc, ◌+◌, ◌≤◌, ◌<◌, length}
 use Rattle.std.proofs.Common.{ap, inl, inr, ⊎_elim, arith}
 use Rattle.rows.specs.Rows.{part, put, length_put, part_put_before, part_put_after}
 use Rattle.params.specs.declared.params.Params.{Params}

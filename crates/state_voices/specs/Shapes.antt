@@ -1,8 +1,8 @@
 -- A voice's turn leaves it one that can take the next: its arrays keep their lengths, and what a turn asks of it holds again. Assumes nothing.
-use Rattle.std.specs.Prelude.{◌≡◌, refl, Bool, true, false, List, [], ◌∷◌, ◌++◌, map, ℕ, zero, suc, ◌+◌, ◌*◌, ◌≤◌, ◌<◌, Float, length}
+use Rattle.std.specs.Prelude.{◌≡◌, refl, Bool, false, List, [], ◌∷◌, ℕ, zero, suc, ◌+◌, ◌*◌, ◌≤◌, ◌<◌, length}
 use Rattle.std.proofs.Common.{ap, sym, subst, ◌∙◌, append-nil, arith, length-set}
 use Rattle.std.proofs.lemmas.List.{length-map}
-use Rattle.rows.specs.Rows.{part, put, part_put_same}
+use Rattle.rows.specs.Rows.{part_put_same}
 use Rattle.params.specs.declared.params.Params.{Params}
 use Rattle.state.specs.State.{State, Sized}
 use Rattle.voice.specs.declared.play.Play.{Play}
@@ -11,11 +11,10 @@ use Rattle.voice.specs.declared.wave.WaveBuffer.{WaveBuffer}
 use Rattle.voice.specs.declared.queue.Queue.{Queue}
 use Rattle.voice.specs.declared.Voice.{Voice}
 use Rattle.voice.specs.Voice.{queue_of}
-use Rattle.voice.specs.Queue.{buffer_at, next_slot}
+use Rattle.voice.specs.Queue.{next_slot}
 use Rattle.voice.specs.Prepare.{settled, flush_slot, flushed, joined, promoted, stopped, prepared_by, prepare_of}
 use Rattle.voice_rows.specs.VoiceRow.{voice_of, words_of, longs_of, floats_of, length_words, length_longs, length_floats}
 use Rattle.row_trips.specs.Trip.{Shaped, voice_again}
-use Rattle.plan.specs.Rounds.{plan_of}
 use Rattle.plan.specs.Fits.{plan_made}
 use Rattle.turn.specs.Render.{Render}
 use Rattle.turn.specs.Turn.{freshened, begin_of, source_of, needed_by, planned_by, finished, turn_of}

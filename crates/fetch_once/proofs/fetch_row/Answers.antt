@@ -2,8 +2,6 @@
 -- Assumes nothing.
 use mathlib.Core.Path.{sym, ◌∙◌}
 use native.Mathlib.Omega.{arith}
-use borrow.Author.Rules.{rules}
-use borrow.Author.Tests.{not-false}
 use Rattle.ranges.proofs.Questions.{laid_facts}
 use Rattle.fetch_once.proofs.fetch_row.Goals as goal
 
@@ -13,12 +11,15 @@ coefficients-table-requires c =
     (sym c.near.ensures ∙ c.if-not-near.false)
 
 pub fetch_channel-requires : goal.fetch_channel-requires
-fetch_channel-requires c = record { ready = record {
-        history = omega (arith, c.if-out-lt3.false);
-        long = omega (arith, c.if-out-gt4100.false);
-        index = omega (arith, c.if-q-gt3.false);
-        some = omega (arith, c.if-s-eq0.false);
-        channels = omega (arith, c.if-s-gt6.false);
-        memory = laid_facts _ _ (sym c.laid.ensures ∙ c.if-not-laid.false)
-            (sym c.near.ensures ∙ c.if-not-near.false);
-      }; c_lt_channels = omega (arith, c.if-s-c.false) }
+fetch_channel-requires c = record {
+  ready = record {
+    history = omega (arith, c.if-out-lt3.false);
+    long = omega (arith, c.if-out-gt4100.false);
+    index = omega (arith, c.if-q-gt3.false);
+    some = omega (arith, c.if-s-eq0.false);
+    channels = omega (arith, c.if-s-gt6.false);
+    memory = laid_facts _ _ (sym c.laid.ensures ∙ c.if-not-laid.false)
+        (sym c.near.ensures ∙ c.if-not-near.false);
+  };
+  c_lt_channels = omega (arith, c.if-s-c.false);
+}

@@ -58,7 +58,7 @@ channels c =
     sym (apart_by_marks _ _ _ c.mark_named.new.marks c.mark_named-2.new.marks (title_named c) (click_named c))
     ∙ sym c.marks_apart.ensures
 
--- ---- the needs
+-- ---- the goals
 
 pub returns-then-not-counts_allowed : goal.returns-then-not-counts_allowed
 returns-then-not-counts_allowed c = sym (merge_is _ _ _ _ (sym c.counts_allowed.ensures ∙ c.if-not-counts_allowed.true) refl refl)

@@ -1,7 +1,6 @@
 -- `open_state` meets its contract: the five slices are what the state has. Assumes nothing.
 use Rattle.state.specs.State.{state_of}
 use Rattle.opened.specs.Written.{state_written}
-use borrow.Author.Rules.{rules}
 use Rattle.opened.proofs.open_state.Goals as goal
 
 pub returns : goal.returns

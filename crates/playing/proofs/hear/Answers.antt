@@ -2,7 +2,6 @@
 use Prim.Native.Nat.{◌*◌, ◌≤◌}
 use native.Mathlib.Omega.{arith}
 use native.Mathlib.Nat.{mul-le-mul}
-use borrow.Author.Rules.{rules}
 use Rattle.resample.specs.Laws.{length_resampled}
 use Rattle.rows.specs.Lent.{front_returned}
 use Rattle.playing.proofs.hear.Goals as goal

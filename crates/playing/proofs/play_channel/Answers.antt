@@ -6,7 +6,6 @@ use lib.ListN.{length}
 use Rattle.plan.specs.Source.{over}
 use Rattle.playing.specs.Playing.{material}
 use Rattle.playing.specs.Channels.{table_made, kept_made, heard_made}
-use borrow.Author.Rules.{rules}
 use Rattle.playing.proofs.play_channel.Goals as goal
 use Rattle.playing.proofs.play_channel.Goals.{After-fetch_channel-made}
 

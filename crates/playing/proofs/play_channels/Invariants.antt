@@ -1,12 +1,8 @@
-use Prim.Native.Nat.{ℕ, ◌-◌}
-use native.Mathlib.Omega.{arith}
-use mathlib.Core.Path.{ap, ◌∙◌}
+use Prim.Native.Nat.{◌-◌}
 use lib.ListN.{length}
 use Rattle.plan.specs.Source.{over}
-use Rattle.sound.specs.Sound.{table_of}
 use Rattle.playing.specs.Playing.{material}
-use Rattle.playing.specs.Channels.{ready_same, Sounding, sounding_none, sounding_room, sounding_more, sounding_heard, sounding_kept}
-use borrow.Author.Rules.{rules}
+use Rattle.playing.specs.Channels.{Sounding}
 use Rattle.playing.proofs.play_channels.Given as goal
 
 abbrev pub invariant-loop-c : goal.invariant-loop-c

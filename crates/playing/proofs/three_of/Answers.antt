@@ -1,8 +1,5 @@
 -- `playing::three_of` meets its contract: the three are copied out. Assumes nothing.
-use mathlib.Core.Path.{sym, ◌∙◌}
 use native.Mathlib.Omega.{arith}
-use lib.ListN.{length-map}
-use borrow.Author.Rules.{rules}
 use Rattle.playing.proofs.three_of.Goals as goal
 
 pub copy_out_f32-requires : goal.copy_out_f32-requires

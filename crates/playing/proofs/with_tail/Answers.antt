@@ -1,11 +1,10 @@
 -- `playing::with_tail` meets its contract: the three from the last place but two on are copied in. Assumes nothing.
 use Prim.Native.Nat.{◌-◌, ◌*◌}
-use mathlib.Core.Path.{refl, sym, ap, ◌∙◌}
+use mathlib.Core.Path.{refl, ap, ◌∙◌}
 use native.Mathlib.Omega.{arith}
-use lib.ListN.{length, length-map}
+use lib.ListN.{length}
 use Rattle.rows.specs.Rows.{put}
 use Rattle.rows.specs.Lent.{part_between}
-use borrow.Author.Rules.{rules}
 use Rattle.playing.proofs.with_tail.Goals as goal
 
 pub copy_in_f32-requires : goal.copy_in_f32-requires

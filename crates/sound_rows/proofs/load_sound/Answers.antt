@@ -4,7 +4,6 @@ use lib.ListN.{get_or}
 use mir.Syntax.{w16}
 use mir.Facts.{to_z-of_z}
 use Rattle.sound_rows.specs.SoundRow.{sound_from, sound_of}
-use borrow.Author.Rules.{rules}
 use Rattle.sound_rows.proofs.load_sound.Goals as goal
 
 pub returns : goal.returns

@@ -1,8 +1,5 @@
 -- `sound_rows::store_history` meets its contract: the samples are copied in. Assumes nothing.
-use mathlib.Core.Path.{sym, ◌∙◌}
 use native.Mathlib.Omega.{arith}
-use lib.ListN.{length-map}
-use borrow.Author.Rules.{rules}
 use Rattle.sound_rows.proofs.store_history.Goals as goal
 
 pub copy_in_f32-requires : goal.copy_in_f32-requires

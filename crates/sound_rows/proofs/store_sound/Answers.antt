@@ -1,6 +1,5 @@
 -- `sound_rows::store_sound` meets its contract: one store for each slice. Assumes nothing.
 use Rattle.sound_rows.specs.SoundRow.{contexts_of, history_of}
-use borrow.Author.Rules.{rules}
 use Rattle.sound_rows.proofs.store_sound.Goals as goal
 
 pub returns : goal.returns

@@ -3,7 +3,6 @@ use Rattle.state.specs.State.{state_of}
 use Rattle.state_voices.specs.Rows.{position_inside, sound_inside}
 use Rattle.state_voices.specs.Keeps.{taken_sized}
 use Rattle.state_voices.specs.Made.{loaded_playing, begun_part, begun_none}
-use borrow.Author.Rules.{rules}
 use Rattle.state_voices.proofs.begin_voice.Goals as goal
 
 pub load_voice_at-v-requires : goal.load_voice_at-v-requires

@@ -1,7 +1,6 @@
 -- `state_voices::idle` meets its contract: the part lent is the words of voice k. Assumes nothing.
 use mathlib.Core.Path.{subst}
 use Prim.Native.Nat.{◌+◌, ◌*◌}
-use borrow.Author.Rules.{rules}
 use Rattle.rows.specs.Lent.{part_cut}
 use Rattle.voice_rows.specs.IdleRow.{IdleRow}
 use Rattle.state_voices.proofs.idle.Goals as goal

@@ -4,7 +4,6 @@ use mathlib.Core.Path.{◌∙◌}
 use Rattle.rows.specs.Lent.{part_cut}
 use Rattle.voice_rows.specs.VoiceRow.{voice_of}
 use Rattle.state_voices.specs.StateVoices.{voice_on}
-use borrow.Author.Rules.{rules}
 use Rattle.state_voices.proofs.load_voice_at.Goals as goal
 
 pub returns : goal.returns

@@ -3,7 +3,6 @@ use Prim.Native.Nat.{◌*◌}
 use mathlib.Core.Path.{◌∙◌}
 use Rattle.rows.specs.Rows.{put}
 use Rattle.sound_rows.specs.SoundRow.{contexts_of, history_of}
-use borrow.Author.Rules.{rules}
 use Rattle.state_voices.proofs.reset_sound.Goals as goal
 
 pub returns : goal.returns

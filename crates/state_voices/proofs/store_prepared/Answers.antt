@@ -1,7 +1,6 @@
 -- `state_voices::store_prepared` meets its contract: by whether the voice is ready. Assumes nothing.
 use Rattle.state.specs.State.{state_of}
 use Rattle.state_voices.specs.Made.{stored_ready, stored_unready}
-use borrow.Author.Rules.{rules}
 use Rattle.state_voices.proofs.store_prepared.Goals as goal
 
 pub returns-then-b : goal.returns-then-b

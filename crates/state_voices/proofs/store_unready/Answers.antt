@@ -1,7 +1,6 @@
 -- `state_voices::store_unready` meets its contract: the voice is stored, and its sound reset or left. Assumes nothing.
 use Rattle.state.specs.State.{state_of}
 use Rattle.state_voices.specs.Made.{unready_reset, unready_kept}
-use borrow.Author.Rules.{rules}
 use Rattle.state_voices.proofs.store_unready.Goals as goal
 
 pub returns-then-b : goal.returns-then-b

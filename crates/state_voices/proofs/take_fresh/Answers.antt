@@ -1,6 +1,5 @@
 -- `state_voices::take_fresh` meets its contract: by whether the voice is fresh. Assumes nothing.
 use Rattle.state_voices.specs.Made.{fresh_taken, not_fresh}
-use borrow.Author.Rules.{rules}
 use Rattle.state_voices.proofs.take_fresh.Goals as goal
 
 pub returns-then-v : goal.returns-then-v

@@ -2,7 +2,6 @@
 use native.Mathlib.Omega.{arith}
 use Prim.Native.Nat.{◌*◌}
 use Rattle.state_voices.specs.Made.{taken_back}
-use borrow.Author.Rules.{rules}
 use Rattle.state_voices.proofs.take_over_at.Goals as goal
 
 pub returns : goal.returns

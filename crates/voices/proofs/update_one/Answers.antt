@@ -1,7 +1,6 @@
 -- `voices::update_one` meets its contract: each way out is a case of the test. Assumes nothing.
 use Rattle.voices.specs.Voices.{unused_rows}
 use Rattle.voices.specs.Turns.{step_used, step_unused}
-use borrow.Author.Rules.{rules}
 use Rattle.voices.proofs.update_one.Goals as goal
 
 pub returns-then-record_used : goal.returns-then-record_used

@@ -4,7 +4,6 @@ use mathlib.Core.Path.{ap, ◌∙◌}
 use Rattle.rows.specs.Rows.{put}
 use Rattle.voice_rows.specs.VoiceRow.{words_of, longs_of, floats_of}
 use Rattle.voice_records.specs.Record.{recorded}
-use borrow.Author.Rules.{rules}
 use Rattle.voices.proofs.update_position.Goals as goal
 
 pub returns : goal.returns

@@ -4,7 +4,6 @@ use mathlib.Core.Path.{sym, ◌∙◌}
 use Rattle.voice.specs.Sound.{silent_sound}
 use Rattle.sound_rows.specs.SoundRow.{contexts_of, history_of}
 use Rattle.voices.specs.Voices.{put_new}
-use borrow.Author.Rules.{rules}
 use Rattle.voices.proofs.update_sound.Goals as goal
 
 pub returns-then-record_new : goal.returns-then-record_new

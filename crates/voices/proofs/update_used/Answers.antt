@@ -1,6 +1,5 @@
 -- `voices::update_used` meets its contract: the position's rows, then the sound's. Assumes nothing.
 use Rattle.voices.specs.Voices.{rows_of, recorded_rows}
-use borrow.Author.Rules.{rules}
 use Rattle.voices.proofs.update_used.Goals as goal
 
 pub returns : goal.returns

@@ -1,10 +1,8 @@
 -- `voices::update_voices` meets its contract: one turn of the loop is one step. Assumes nothing.
-use Prim.Native.Nat.{◌-◌}
 use mathlib.Core.Path.{refl, ap}
-use Rattle.rows.specs.Loops.{Turning, turn_begin, turn_more, turn_end}
-use Rattle.voices.specs.Voices.{VoiceRows, VoicesSized, rows_of, voice_step, voices_of}
+use Rattle.rows.specs.Loops.{turn_begin, turn_more, turn_end}
+use Rattle.voices.specs.Voices.{VoiceRows, voices_of}
 use Rattle.voices.specs.Own.{step_sized}
-use borrow.Author.Rules.{rules}
 use Rattle.voices.proofs.update_voices.Goals as goal
 
 pub loop-k-init : goal.loop-k-init

@@ -1,9 +1,6 @@
 use Prim.Native.Nat.{◌-◌}
-use mathlib.Core.Path.{refl, ap}
-use Rattle.rows.specs.Loops.{Turning, turn_begin, turn_more, turn_end}
-use Rattle.voices.specs.Voices.{VoiceRows, VoicesSized, rows_of, voice_step, voices_of}
-use Rattle.voices.specs.Own.{step_sized}
-use borrow.Author.Rules.{rules}
+use Rattle.rows.specs.Loops.{Turning}
+use Rattle.voices.specs.Voices.{VoicesSized, rows_of, voice_step}
 use Rattle.voices.proofs.update_voices.Given as goal
 
 abbrev pub invariant-loop-k : goal.invariant-loop-k

@@ -4,7 +4,6 @@ use mathlib.Core.Path.{◌∙◌}
 use Rattle.rows.specs.Lent.{part_cut}
 use Rattle.voice_rows.specs.VoiceRow.{voice_of}
 use Rattle.voices.specs.Voices.{voice_at}
-use borrow.Author.Rules.{rules}
 use Rattle.voices.proofs.voice_at.Goals as goal
 
 pub returns : goal.returns

@@ -10,18 +10,18 @@ use Rattle.merging.specs.Merge.{block_header, padded, written_header, merged_poo
 use Rattle.merging.proofs.Lengths.{length_written, length_pools}
 use Rattle.merging.proofs.Padding.{put_front}
 use Rattle.merging.proofs.block.put_front.Goals as goal
-use Rattle.merging.proofs.block.put_front.Goals.{After-put_header-arg-1}
+use Rattle.merging.proofs.block.put_front.Goals.{Start}
 
 -- as long as the header
-lent_long : (c : After-put_header-arg-1) → length (take block_header c.args.output.now) ≡ block_header
+lent_long : (c : Start) → length (take block_header c.args.output.now) ≡ block_header
 lent_long c =
     length-take-le block_header c.args.output.now (omega (arith, c.requires.pools_in_bounds))
 
 pub slice_bounds-put_header-end-2 : goal.slice_bounds-put_header-end-2
-slice_bounds-put_header-end-2 c = sym (lent_long c)
+slice_bounds-put_header-end-2 c = sym (lent_long (goal.at.slice_bounds-put_header-end-2 c).Start)
 
 pub put_header-requires : goal.put_header-requires
-put_header-requires c = (c.requires.n_bound, lent_long c)
+put_header-requires c = (c.requires.n_bound, lent_long (goal.at.put_header-requires c).Start)
 
 pub put_padded-requires : goal.put_padded-requires
 put_padded-requires c =

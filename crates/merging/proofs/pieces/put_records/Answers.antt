@@ -7,10 +7,10 @@ use Rattle.rows.specs.Tables.{join_begin, join_room, join_step, join_end}
 use Rattle.merging.specs.Merge.{record_size, padded, chosen_record}
 use Rattle.merging.proofs.Lengths.{length_padded}
 use Rattle.merging.proofs.pieces.put_records.Goals as goal
-use Rattle.merging.proofs.pieces.put_records.Goals.{After-put_record-arg-1}
+use Rattle.merging.proofs.pieces.put_records.Goals.{In-loop-k}
 
 -- record k is inside
-room : (c : After-put_record-arg-1)
+room : (c : In-loop-k)
     → (let l = c.loop-k in
     c.args.at + l.k * record_size + record_size ≤ length l.output)
 room c =
@@ -20,10 +20,10 @@ pub loop-k-init : goal.loop-k-init
 loop-k-init c = join_begin _ _ _ _ _ (omega arith)
 
 pub overflow_add-at : goal.overflow_add-at
-overflow_add-at c = omega (arith, room c)
+overflow_add-at c = omega (arith, room (goal.at.overflow_add-at c).In-loop-k)
 
 pub put_record-requires : goal.put_record-requires
-put_record-requires c = (omega arith, room c)
+put_record-requires c = (omega arith, room (goal.at.put_record-requires c).In-loop-k)
 
 pub loop-k-preserved : goal.loop-k-preserved
 loop-k-preserved c =

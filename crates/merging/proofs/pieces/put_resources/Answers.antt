@@ -6,10 +6,10 @@ use Rattle.rows.specs.Tables.{join_begin, join_room, join_step, join_end}
 use Rattle.merging.specs.Merge.{resource_size}
 use Rattle.merging.proofs.Lengths.{length_chosen}
 use Rattle.merging.proofs.pieces.put_resources.Goals as goal
-use Rattle.merging.proofs.pieces.put_resources.Goals.{After-put_resource-arg-1}
+use Rattle.merging.proofs.pieces.put_resources.Goals.{In-loop-j}
 
 -- resource j is inside
-room : (c : After-put_resource-arg-1)
+room : (c : In-loop-j)
     → (let l = c.loop-j in
     c.args.at + l.j * resource_size + resource_size ≤ length l.output)
 room c =
@@ -19,10 +19,10 @@ pub loop-j-init : goal.loop-j-init
 loop-j-init c = join_begin _ _ _ _ _ (omega arith)
 
 pub overflow_add-at : goal.overflow_add-at
-overflow_add-at c = omega (arith, room c)
+overflow_add-at c = omega (arith, room (goal.at.overflow_add-at c).In-loop-j)
 
 pub put_resource-requires : goal.put_resource-requires
-put_resource-requires c = (omega arith, room (goal.at.put_resource-requires c).After-put_resource-arg-1)
+put_resource-requires c = (omega arith, room (goal.at.put_resource-requires c).In-loop-j)
 
 pub loop-j-preserved : goal.loop-j-preserved
 loop-j-preserved c =

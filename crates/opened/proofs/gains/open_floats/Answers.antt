@@ -1,6 +1,5 @@
 -- `open_floats` meets its contract: voices, resources and desk, one behind the other. Assumes nothing.
 use Rattle.opened.specs.Written.{floats_written}
-use borrow.Author.Rules.{rules}
 use Rattle.opened.proofs.gains.open_floats.Goals as goal
 
 pub returns : goal.returns

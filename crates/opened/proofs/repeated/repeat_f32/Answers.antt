@@ -1,10 +1,7 @@
 -- `repeat_f32` meets its contract: a row is put at each turn. Assumes nothing.
 use mathlib.Core.Path.{refl}
-use Prim.Native.Nat.{◌-◌}
 use native.Mathlib.Omega.{arith}
-use borrow.Author.Rules.{rules}
-use lib.ListN.{length}
-use Rattle.rows.specs.Tables.{Joining, join_begin, join_room, join_step, join_end}
+use Rattle.rows.specs.Tables.{join_begin, join_room, join_step, join_end}
 use Rattle.opened.proofs.repeated.repeat_f32.Goals as goal
 
 pub loop-k-init : goal.loop-k-init

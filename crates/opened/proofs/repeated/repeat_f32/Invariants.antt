@@ -1,9 +1,6 @@
-use mathlib.Core.Path.{refl}
 use Prim.Native.Nat.{◌-◌}
-use native.Mathlib.Omega.{arith}
-use borrow.Author.Rules.{rules}
 use lib.ListN.{length}
-use Rattle.rows.specs.Tables.{Joining, join_begin, join_room, join_step, join_end}
+use Rattle.rows.specs.Tables.{Joining}
 use Rattle.opened.proofs.repeated.repeat_f32.Given as goal
 
 abbrev pub invariant-loop-k : goal.invariant-loop-k

@@ -1,6 +1,5 @@
 -- `open_words` meets its contract: parameters, voices and desk, one behind the other. Assumes nothing.
 use Rattle.opened.specs.Written.{words_written}
-use borrow.Author.Rules.{rules}
 use Rattle.opened.proofs.words.open_words.Goals as goal
 
 pub returns : goal.returns

@@ -1,6 +1,5 @@
 -- `put_desk` meets its contract: each kind stands right behind the one before. Assumes nothing.
 use Rattle.opened.specs.Written.{desk_words_written}
-use borrow.Author.Rules.{rules}
 use Rattle.opened.proofs.words.put_desk.Goals as goal
 
 pub returns : goal.returns

@@ -1,6 +1,5 @@
 -- `put_params` meets its contract: the row is copied in. Assumes nothing.
 use Rattle.params.specs.Params.{row_of}
-use borrow.Author.Rules.{rules}
 use Rattle.opened.proofs.words.put_params.Goals as goal
 
 pub returns : goal.returns

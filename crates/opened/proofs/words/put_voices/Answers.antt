@@ -5,7 +5,6 @@ use Prim.Native.Nat.{ℕ}
 use Rattle.rows.specs.Rows.{put}
 use Rattle.rows.specs.Tables.{joined}
 use Rattle.opened.specs.Parts.{default_words}
-use borrow.Author.Rules.{rules}
 use Rattle.opened.proofs.words.put_voices.Goals as goal
 
 pub returns : goal.returns

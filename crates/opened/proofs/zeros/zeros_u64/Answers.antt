@@ -1,10 +1,8 @@
 -- `zeros_u64` meets its contract: a zero is stored at each turn. Assumes nothing.
 use mathlib.Core.Path.{refl, ap, ◌∙◌}
-use Prim.Native.Nat.{◌-◌}
 use native.Mathlib.Omega.{arith}
-use borrow.Author.Rules.{rules}
 use Rattle.rows.specs.Rows.{put}
-use Rattle.rows.specs.Tables.{Tabling, table_begin, table_step, table_end}
+use Rattle.rows.specs.Tables.{table_begin, table_step, table_end}
 use Rattle.opened.specs.Sections.{table_same}
 use Rattle.opened.proofs.zeros.zeros_u64.Goals as goal
 

@@ -1,10 +1,5 @@
-use mathlib.Core.Path.{refl, ap, ◌∙◌}
 use Prim.Native.Nat.{◌-◌}
-use native.Mathlib.Omega.{arith}
-use borrow.Author.Rules.{rules}
-use Rattle.rows.specs.Rows.{put}
-use Rattle.rows.specs.Tables.{Tabling, table_begin, table_step, table_end}
-use Rattle.opened.specs.Sections.{table_same}
+use Rattle.rows.specs.Tables.{Tabling}
 use Rattle.opened.proofs.zeros.zeros_u64.Given as goal
 
 abbrev pub invariant-loop-k : goal.invariant-loop-k

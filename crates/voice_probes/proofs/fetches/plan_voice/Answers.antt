@@ -2,7 +2,6 @@
 use mathlib.Core.Path.{◌≡◌, ap}
 use native.Mathlib.Omega.{arith}
 use Rattle.voice.specs.declared.queue.Queue.{Queue}
-use borrow.Author.Rules.{rules}
 use Rattle.voice_probes.proofs.fetches.plan_voice.Goals as goal
 
 pub plan_fetch-p-requires : goal.plan_fetch-p-requires
