@@ -1,5 +1,5 @@
 -- `held_main::render` meets what a turn requires by its own tests, and lends as much of the row as the turn takes. Assumes nothing.
-use Rattle.std.proofs.Common.{◌≡◌, ◌+◌, ◌*◌, ◌≤◌, ◌<◌, ◌∙◌, ℕ, [], ◌∷◌, length, take, replicate, sym, subst, arith, length-take-le}
+use Rattle.std.proofs.Common.{◌≡◌, ◌+◌, ◌≤◌, ◌<◌, ◌∙◌, ℕ, [], ◌∷◌, length, take, replicate, sym, subst, arith, length-take-le}
 use Rattle.std.specs.Float.{binary32}
 use Rattle.std.specs.Float.Ieee.{of_bits}
 use Rattle.voice.specs.declared.queue.Queue.{Queue}
