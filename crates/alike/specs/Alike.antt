@@ -1,5 +1,5 @@
 -- Two states that differ at most in sound. Definitions only.
-use Rattle.std.specs.Prelude.{◌≡◌, Bool, ◌&&◌, ℕ, ◌*◌, ◌<◌, T, length}
+use Rattle.std.specs.Prelude.{◌≡◌, Bool, ◌&&◌, ℕ, ◌*◌, ◌<◌, T}
 use mathlib.Core.List.{List, Memᴰ}
 use Rattle.rows.specs.Rows.{part}
 use Rattle.ranges.specs.Ranges.{Range}

@@ -1,7 +1,6 @@
 -- The reads of sample memory that a voice's turn makes (mixer.rs `fetch`), each of which succeeds: the coefficients, then for each round
 -- the context and the samples. They follow from the voice and the render, and no byte of sample memory. Definitions only.
-use Rattle.std.specs.Prelude.{Bool, true, false, cond, List, [], ◌∷◌, ◌++◌, ◌≡◌, ℕ, ◌*◌}
-use Rattle.memory.specs.Memory.{read_of}
+use Rattle.std.specs.Prelude.{Bool, true, false, cond, List, [], ◌∷◌, ◌++◌, ℕ, ◌*◌}
 use Rattle.voice.specs.declared.Voice.{Voice}
 use Rattle.plan.specs.Source.{Source}
 use Rattle.plan.specs.declared.Act.{Act}

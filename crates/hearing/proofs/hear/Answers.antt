@@ -8,7 +8,6 @@ use Rattle.sound_rows.specs.SoundRow.{contexts_of, history_of}
 use Rattle.plan.specs.Source.{over}
 use Rattle.playing.specs.Playing.{Material, material, played_sound}
 use Rattle.hearing.specs.Hearing.{heard_out}
-use borrow.Author.Rules.{rules}
 use Rattle.hearing.proofs.hear.Goals as goal
 use Rattle.hearing.proofs.hear.Goals.{Start}
 

@@ -8,7 +8,6 @@ use lib.Seq.{length-take-le}
 use Rattle.plan.specs.Source.{over}
 use Rattle.playing.specs.Playing.{Material, material, played_sound, played_out}
 use Rattle.hearing.specs.Laws.{played_front}
-use borrow.Author.Rules.{rules}
 use Rattle.hearing.proofs.play.Goals as goal
 use Rattle.hearing.proofs.play.Goals.{Start}
 
@@ -46,5 +45,8 @@ play_channels-requires c = record { ready = c.requires.ready; table_value = c.re
 
 pub returns : goal.returns
 returns c =
-    let e : length (take (3 + c.args.needed) c.args.src.now) - 3 ≡ c.args.needed = omega (arith, row_long (goal.at.returns c).Start) in record { value = c.play_channels.ensures.value ∙ (λ i. played_sound (from (goal.at.returns c).Start (e i))); out_after = played_front (from (goal.at.returns c).Start c.args.needed) c.args.out.now _ c.requires.n_bound.1
-          (c.play_channels.ensures.out_after ∙ (λ i. played_out (from (goal.at.returns c).Start (e i)) (take (c.args.s.channels * c.args.n) c.args.out.now))) }
+    let e : length (take (3 + c.args.needed) c.args.src.now) - 3 ≡ c.args.needed = omega (arith, row_long (goal.at.returns c).Start) in record {
+      value = c.play_channels.ensures.value ∙ (λ i. played_sound (from (goal.at.returns c).Start (e i)));
+      out_after = played_front (from (goal.at.returns c).Start c.args.needed) c.args.out.now _ c.requires.n_bound.1
+          (c.play_channels.ensures.out_after ∙ (λ i. played_out (from (goal.at.returns c).Start (e i)) (take (c.args.s.channels * c.args.n) c.args.out.now)));
+    }

@@ -4,7 +4,6 @@ use mathlib.Core.Path.{◌∙◌}
 use Rattle.rows.specs.Lent.{part_cut}
 use Rattle.sound_rows.specs.SoundRow.{sound_of}
 use Rattle.hearing.specs.Hearing.{sound_in}
-use borrow.Author.Rules.{rules}
 use Rattle.hearing.proofs.sound_at.Goals as goal
 
 pub returns : goal.returns

@@ -3,6 +3,7 @@ use mathlib.Core.Path.{◌≡◌, ap, ◌∙◌}
 use mathlib.Core.List.{List}
 use Prim.Native.Nat.{ℕ, ◌%◌, min}
 use lib.IntN.{ℤ}
+use native.Mathlib.Omega.{arith}
 use mir.Syntax.{w16}
 use mir.Val.{to_z, of_z}
 use mir.Facts.{to_z-of_z}
@@ -20,10 +21,10 @@ module _ (c : After-try_pair) where
 
   -- the pair and the histories as they are passed, and as the contract has them
   first_is : to_z w16 (of_z w16 (pair_first k b)) ≡ pair_first k b
-  first_is = back w16 (pair_first k b) c.c-1.given
+  first_is = back w16 (pair_first k b) (omega arith)
 
   second_is : to_z w16 (of_z w16 (pair_second k b)) ≡ pair_second k b
-  second_is = back w16 (pair_second k b) c.d-1.given
+  second_is = back w16 (pair_second k b) (omega arith)
 
   abbrev ts : List ℤ
   ts = c.args.samples.now

@@ -3,7 +3,8 @@ use mathlib.Core.Path.{◌≡◌, ◌∙◌}
 use mathlib.Core.List.{List}
 use Prim.Native.Nat.{ℕ, min}
 use native.Mathlib.Omega.{arith}
-use lib.IntN.{ℤ}
+use lib.IntN.{ℤ, pos}
+use lib.ListN.{get_or}
 use mir.Syntax.{w16}
 use mir.Val.{to_z, of_z}
 use mir.Facts.{to_z-of_z}
@@ -53,7 +54,7 @@ overflow_add-sum c =
 pub loop-i-preserved : goal.loop-i-preserved
 loop-i-preserved c =
     let q = c.square-sum in
-    let sample = to_z-of_z {w = w16} (record { sfits = c.choose_nibble-arg-1.given }) in
+    let sample = to_z-of_z {w = w16} {z = get_or c.args.samples.now c.loop-i.i (pos 0)} (record { sfits = omega arith }) in
     try_more _ _ _ _ _ _ _ _ _ _ c.loop-i.invariant c.loop-i-test.true _ sample
     _ _ _ c.choose_nibble-next.ensures _ q.ensures.0 _ (to_z-of_z (chosen_fits c.choose_nibble-next.ensures)) q.ensures.1
 

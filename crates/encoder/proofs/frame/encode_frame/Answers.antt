@@ -22,22 +22,22 @@ module _ (c : After-put_nibbles-last) where
 
   -- the context's samples and the pair as they are passed, and as the contract has them
   zero_is : to_z w16 (of_z w16 c.args.ctx.history0) ≡ c.args.ctx.history0
-  zero_is = back w16 c.args.ctx.history0 c.struct_told-1.given.1.0.1
+  zero_is = back w16 c.args.ctx.history0 (omega arith)
 
   one_is : to_z w16 (of_z w16 c.args.ctx.history1) ≡ c.args.ctx.history1
-  one_is = back w16 c.args.ctx.history1 c.struct_told-1.given.1.1.0.1
+  one_is = back w16 c.args.ctx.history1 (omega arith)
 
   first_is : to_z w16 (of_z w16 (pair_first k b)) ≡ pair_first k b
-  first_is = back w16 (pair_first k b) c.c-1.given
+  first_is = back w16 (pair_first k b) (omega arith)
 
   second_is : to_z w16 (of_z w16 (pair_second k b)) ≡ pair_second k b
-  second_is = back w16 (pair_second k b) c.d-1.given
+  second_is = back w16 (pair_second k b) (omega arith)
 
 pub returns : goal.returns
 returns c =
     let l = c.put_nibbles-last.result in
-    let last-is = back w16 l.h0 c.struct_told-3-1.given.0.1 in
-    let before-is = back w16 l.h1 c.struct_told-3-1.given.1.0.1 in
+    let last-is = back w16 l.h0 (omega arith) in
+    let before-is = back w16 l.h1 (omega arith) in
     frames_are _ _ _ _ _ _ _ _ _ (keeps_by (zero_is (goal.at.returns c).After-put_nibbles-last) (one_is (goal.at.returns c).After-put_nibbles-last) c.keep_header-kept.ensures)
     (puts_by _ _ (first_is (goal.at.returns c).After-put_nibbles-last) (second_is (goal.at.returns c).After-put_nibbles-last) (zero_is (goal.at.returns c).After-put_nibbles-last) (one_is (goal.at.returns c).After-put_nibbles-last) last-is before-is c.put_nibbles-last.ensures)
     (header_put c.args.out.now _ _ (omega (arith, c.requires.1)))

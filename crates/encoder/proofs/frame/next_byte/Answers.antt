@@ -46,7 +46,7 @@ module _ (p : After-choose_nibble-one) where
 
   one : Chosen (get_or (ts p.before.before) (i p.before.before) (pos 0)) (s p.before.before) (c p.before.before) (d p.before.before) (h0 p.before.before) (h1 p.before.before) chosen.nibble chosen.sample chosen.difference
   one =
-      let sample = back w16 (get_or (ts p.before.before) (i p.before.before) (pos 0)) p.choose_nibble-arg-1.given in
+      let sample = back w16 (get_or (ts p.before.before) (i p.before.before) (pos 0)) (omega arith) in
       let f = p.ranges in
       chosen_by (s p.before.before) sample (to_z-of_z f.c) (to_z-of_z f.d) (to_z-of_z f.h0) (to_z-of_z f.h1) p.choose_nibble-one.ensures
 
@@ -60,7 +60,7 @@ module _ (q : After-choose_nibble-two) where
 
   two : Chosen (get_or (ts g) (i g + 1) (pos 0)) (s g) (c g) (d g) (chosen q.before.before.before.before.before).sample (h0 g) next.nibble next.sample next.difference
   two =
-      let sample = back w16 (get_or (ts g) (i g + 1) (pos 0)) q.choose_nibble-arg-2-1.given in
+      let sample = back w16 (get_or (ts g) (i g + 1) (pos 0)) (omega arith) in
       let f = q.ranges in
       let last = to_z-of_z (chosen_fits (one q.before.before.before.before.before)) in
       chosen_by (s g) sample (to_z-of_z f.c) (to_z-of_z f.d) last (to_z-of_z f.h0) q.choose_nibble-two.ensures
