@@ -5,7 +5,6 @@ use mathlib.Core.List.{List, [], ◌∷◌, ◌++◌}
 use lib.IntN.{ℤ, pos}
 use lib.ListN.{length, get_or}
 use Rattle.rows.specs.Tables.{table, joined}
-use Rattle.adpcm.specs.declared.context.AdpcmContext.{AdpcmContext}
 use Rattle.dsp_header.specs.declared.DspHeader.{DspHeader}
 use Rattle.dsp_header.specs.Big.{big, big_bytes}
 use Rattle.dsp_header.specs.Header.{signed_at, coefficients_at, context_at, header_of, padding_of}

@@ -34,7 +34,7 @@ holds c =
     let n = length c.args.file.now - header_size in
     (λ i. holds_samples (sym c.read_header-header.ensures i).samples n) ∙ sym c.holds_samples.ensures
 
--- ---- the needs
+-- ---- the goals
 
 pub returns-then-file-lt-HEADER_BYTES : goal.returns-then-file-lt-HEADER_BYTES
 returns-then-file-lt-HEADER_BYTES c =

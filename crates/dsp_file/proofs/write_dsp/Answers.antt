@@ -36,7 +36,7 @@ unfolding has_room
 room c =
     leb-true (header_size + length c.args.«data».now) (length c.args.output.now) (sym c.has_room.ensures ∙ room_yes c)
 
--- ---- the needs
+-- ---- the goals
 
 pub returns-then-not-plain_header : goal.returns-then-not-plain_header
 returns-then-not-plain_header c = sym (write_is _ _ _ (plain (goal.at.returns-then-not-plain_header c).After-plain_header ∙ c.if-not-plain_header.true) refl refl)

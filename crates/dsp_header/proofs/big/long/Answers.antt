@@ -1,7 +1,6 @@
 -- `dsp_header::big::long` meets its contract: `big` at 2 + 2. Assumes nothing.
 use native.Mathlib.Omega.{arith}
 use Rattle.dsp_header.proofs.Numbers.{big_four}
-use borrow.Author.Rules.{rules}
 use Rattle.dsp_header.proofs.big.long.Goals as goal
 
 pub returns : goal.returns

@@ -1,7 +1,6 @@
 -- `dsp_header::big::put_big` meets its contract: `Putting` holds at each turn. Assumes nothing.
 use native.Mathlib.Omega.{arith}
-use borrow.Author.Rules.{rules}
-use Rattle.dsp_header.proofs.Putting.{Putting, put_begin, put_more, put_end}
+use Rattle.dsp_header.proofs.Putting.{put_begin, put_more, put_end}
 use Rattle.dsp_header.proofs.big.put_big.Goals as goal
 
 pub loop-k-init : goal.loop-k-init

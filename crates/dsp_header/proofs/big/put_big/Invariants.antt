@@ -1,6 +1,4 @@
-use native.Mathlib.Omega.{arith}
-use borrow.Author.Rules.{rules}
-use Rattle.dsp_header.proofs.Putting.{Putting, put_begin, put_more, put_end}
+use Rattle.dsp_header.proofs.Putting.{Putting}
 use Rattle.dsp_header.proofs.big.put_big.Given as goal
 
 abbrev pub invariant-loop-k : goal.invariant-loop-k

@@ -1,7 +1,6 @@
 -- `dsp_header::big::word` meets its contract: two steps of `big`. Assumes nothing.
 use native.Mathlib.Omega.{arith}
 use Rattle.dsp_header.proofs.Numbers.{big_two}
-use borrow.Author.Rules.{rules}
 use Rattle.dsp_header.proofs.big.word.Goals as goal
 
 pub returns : goal.returns

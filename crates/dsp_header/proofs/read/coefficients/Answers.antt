@@ -1,12 +1,9 @@
 -- `dsp_header::read::coefficients` meets its contract. Assumes nothing.
-use mathlib.Core.Path.{◌≡◌, refl}
-use Prim.Native.Nat.{ℕ, ◌+◌, ◌-◌, ◌*◌}
+use mathlib.Core.Path.{refl}
 use native.Mathlib.Omega.{arith}
-use lib.ListN.{length}
-use Rattle.rows.proofs.Filling.{Filling, fill_begin, fill_more, fill_end}
-use Rattle.dsp_header.specs.Header.{signed_at, coefficients_at}
+use Rattle.rows.proofs.Filling.{fill_begin, fill_more, fill_end}
+use Rattle.dsp_header.specs.Header.{coefficients_at}
 use Rattle.dsp_header.proofs.Numbers.{signed_is}
-use borrow.Author.Rules.{rules}
 use Rattle.dsp_header.proofs.read.coefficients.Goals as goal
 
 pub loop-k-init : goal.loop-k-init

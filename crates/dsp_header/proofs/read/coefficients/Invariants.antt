@@ -1,11 +1,8 @@
-use mathlib.Core.Path.{◌≡◌, refl}
+use mathlib.Core.Path.{◌≡◌}
 use Prim.Native.Nat.{ℕ, ◌+◌, ◌-◌, ◌*◌}
-use native.Mathlib.Omega.{arith}
 use lib.ListN.{length}
-use Rattle.rows.proofs.Filling.{Filling, fill_begin, fill_more, fill_end}
-use Rattle.dsp_header.specs.Header.{signed_at, coefficients_at}
-use Rattle.dsp_header.proofs.Numbers.{signed_is}
-use borrow.Author.Rules.{rules}
+use Rattle.rows.proofs.Filling.{Filling}
+use Rattle.dsp_header.specs.Header.{signed_at}
 use Rattle.dsp_header.proofs.read.coefficients.Given as goal
 
 abbrev pub invariant-loop-k : goal.invariant-loop-k

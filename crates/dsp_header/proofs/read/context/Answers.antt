@@ -5,7 +5,6 @@ use lib.IntN.{ℤ}
 use Rattle.adpcm.specs.declared.context.AdpcmContext.{AdpcmContext}
 use Rattle.dsp_header.specs.Header.{context_at}
 use Rattle.dsp_header.proofs.Numbers.{signed_is}
-use borrow.Author.Rules.{rules}
 use Rattle.dsp_header.proofs.read.context.Goals as goal
 
 abbrev context_from : ℕ → ℤ → ℤ → AdpcmContext

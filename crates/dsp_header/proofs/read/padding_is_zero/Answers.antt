@@ -1,12 +1,11 @@
 -- `dsp_header::read::padding_is_zero` meets its contract: the bytes passed are a number that is 0. Assumes nothing.
-use Prim.Native.Nat.{ℕ, ◌-◌, ◌≤◌}
+use Prim.Native.Nat.{ℕ}
 use mathlib.Core.Path.{◌≡◌, refl, sym, ap, ◌∙◌}
 use native.Mathlib.Omega.{arith}
 use borrow.Author.Tests.{eq-eqb, ne_eqb}
 use Rattle.dsp_header.specs.Big.{big}
 use Rattle.dsp_header.specs.Header.{padding_of}
 use Rattle.dsp_header.proofs.Numbers.{big_more, zero_byte}
-use borrow.Author.Rules.{rules}
 use Rattle.dsp_header.proofs.read.padding_is_zero.Goals as goal
 
 pub loop-k-init : goal.loop-k-init

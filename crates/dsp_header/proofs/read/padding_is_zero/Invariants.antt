@@ -1,11 +1,6 @@
-use Prim.Native.Nat.{ℕ, ◌-◌, ◌≤◌}
-use mathlib.Core.Path.{◌≡◌, refl, sym, ap, ◌∙◌}
-use native.Mathlib.Omega.{arith}
-use borrow.Author.Tests.{eq-eqb, ne_eqb}
+use Prim.Native.Nat.{◌-◌, ◌≤◌}
+use mathlib.Core.Path.{◌≡◌}
 use Rattle.dsp_header.specs.Big.{big}
-use Rattle.dsp_header.specs.Header.{padding_of}
-use Rattle.dsp_header.proofs.Numbers.{big_more, zero_byte}
-use borrow.Author.Rules.{rules}
 use Rattle.dsp_header.proofs.read.padding_is_zero.Given as goal
 
 abbrev pub invariant-loop-k : goal.invariant-loop-k

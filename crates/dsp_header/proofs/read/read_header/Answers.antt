@@ -1,12 +1,5 @@
 -- `dsp_header::read::read_header` meets its contract: each value is what its reader gives. Assumes nothing.
-use Prim.Native.Nat.{ℕ}
-use mathlib.Core.Path.{◌≡◌}
-use mathlib.Core.List.{List}
-use lib.IntN.{ℤ}
-use Rattle.adpcm.specs.declared.context.AdpcmContext.{AdpcmContext}
-use Rattle.dsp_header.specs.declared.DspHeader.{DspHeader}
 use Rattle.dsp_header.specs.Header.{header_of}
-use borrow.Author.Rules.{rules}
 use Rattle.dsp_header.proofs.read.read_header.Goals as goal
 
 pub returns : goal.returns

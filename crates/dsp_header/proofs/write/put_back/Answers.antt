@@ -4,7 +4,6 @@ use Rattle.dsp_header.specs.Big.{big_bytes}
 use Rattle.dsp_header.specs.Header.{coefficient_bytes, context_bytes, back_bytes}
 use Rattle.dsp_header.proofs.Laid.{laid_first, laid_next}
 use Rattle.dsp_header.proofs.Sizes.{length_big, length_coefficients, length_context}
-use borrow.Author.Rules.{rules}
 use Rattle.dsp_header.proofs.write.put_back.Goals as goal
 
 pub returns : goal.returns

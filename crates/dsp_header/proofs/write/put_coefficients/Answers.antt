@@ -1,16 +1,15 @@
 -- `dsp_header::write::put_coefficients` meets its contract: a number is put at each turn. Assumes nothing.
 use mathlib.Core.Path.{◌≡◌, ap, ◌∙◌}
 use mathlib.Core.List.{List}
-use Prim.Native.Nat.{ℕ, ◌+◌, ◌*◌, ◌-◌}
+use Prim.Native.Nat.{ℕ, ◌+◌, ◌*◌}
 use native.Mathlib.Omega.{arith}
 use lib.IntN.{ℤ, pos}
 use lib.ListN.{length, get_or}
 use Rattle.rows.specs.Rows.{put}
-use Rattle.rows.specs.Tables.{Joining, join_begin, join_room, join_step, join_end}
+use Rattle.rows.specs.Tables.{join_begin, join_room, join_step, join_end}
 use Rattle.dsp_header.proofs.Numbers.{bits_are}
-use Rattle.dsp_header.specs.Header.{signed_bytes, coefficient_bytes}
+use Rattle.dsp_header.specs.Header.{coefficient_bytes}
 use Rattle.dsp_header.proofs.Sizes.{length_signed}
-use borrow.Author.Rules.{rules}
 use Rattle.dsp_header.proofs.write.put_coefficients.Invariants.{bytes_at}
 use Rattle.dsp_header.proofs.write.put_coefficients.Goals as goal
 
@@ -26,7 +25,7 @@ put_big-requires c =
 
 pub loop-k-preserved : goal.loop-k-preserved
 loop-k-preserved c =
-    let e = bits_are _ c.bits16-arg-1.given c.bits16.ensures in
+    let e = bits_are (get_or c.args.c c.loop-k.k (pos 0)) (omega arith) c.bits16.ensures in
     join_step c.loop-k.invariant (two c.args.c) (omega arith) (omega arith)
     (c.put_big.ensures ∙ ap (put c.loop-k.out (c.args.o + c.loop-k.k * 2)) e)
 

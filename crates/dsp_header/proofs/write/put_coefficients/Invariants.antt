@@ -1,15 +1,9 @@
-use mathlib.Core.Path.{◌≡◌, ap, ◌∙◌}
 use mathlib.Core.List.{List}
-use Prim.Native.Nat.{ℕ, ◌+◌, ◌*◌, ◌-◌}
-use native.Mathlib.Omega.{arith}
+use Prim.Native.Nat.{ℕ, ◌-◌}
 use lib.IntN.{ℤ, pos}
-use lib.ListN.{length, get_or}
-use Rattle.rows.specs.Rows.{put}
-use Rattle.rows.specs.Tables.{Joining, join_begin, join_room, join_step, join_end}
-use Rattle.dsp_header.proofs.Numbers.{bits_are}
-use Rattle.dsp_header.specs.Header.{signed_bytes, coefficient_bytes}
-use Rattle.dsp_header.proofs.Sizes.{length_signed}
-use borrow.Author.Rules.{rules}
+use lib.ListN.{get_or}
+use Rattle.rows.specs.Tables.{Joining}
+use Rattle.dsp_header.specs.Header.{signed_bytes}
 use Rattle.dsp_header.proofs.write.put_coefficients.Given as goal
 
 abbrev pub bytes_at : List ℤ → ℕ → List ℕ

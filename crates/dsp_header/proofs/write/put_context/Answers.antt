@@ -8,14 +8,13 @@ use Rattle.dsp_header.specs.Header.{signed_bytes, context_bytes}
 use Rattle.dsp_header.proofs.Laid.{laid_first, laid_next}
 use Rattle.dsp_header.proofs.Numbers.{bits_are}
 use Rattle.dsp_header.proofs.Sizes.{length_big, length_signed}
-use borrow.Author.Rules.{rules}
 use Rattle.dsp_header.proofs.write.put_context.Goals as goal
 
 pub returns : goal.returns
 unfolding context_bytes
 returns c =
-    let later = bits_are c.args.x.history0 c.struct_told-1.given.1.0.1 c.bits16.ensures in
-    let earlier = bits_are c.args.x.history1 c.struct_told-2-1.given.1.1.0.1 c.bits16-2.ensures in
+    let later = bits_are c.args.x.history0 (omega arith) c.bits16.ensures in
+    let earlier = bits_are c.args.x.history1 (omega arith) c.bits16-2.ensures in
     (laid_next
     (laid_next
     (laid_first c.args.o (big_bytes 2 c.args.x.pred_scale) 2 (length_big 2 _) c.put_big.ensures)

@@ -3,7 +3,6 @@ use native.Mathlib.Omega.{arith}
 use Rattle.dsp_header.specs.Header.{front_bytes, back_bytes, header_bytes}
 use Rattle.dsp_header.proofs.Laid.{laid_first, laid_next}
 use Rattle.dsp_header.proofs.Sizes.{length_front, length_back}
-use borrow.Author.Rules.{rules}
 use Rattle.dsp_header.proofs.write.put_header.Goals as goal
 
 pub returns : goal.returns
