@@ -52,10 +52,10 @@ render_voices-rounds-requires c =
     record { fact_1 = counted_playing {st = given made} (ready made) c.count_render.ensures; fact_2 = c.requires.fact_4.heard }
 
 pub slice_bounds-finish-end : goal.slice_bounds-finish-end
-slice_bounds-finish-end c = room_kept c.buffers-1.given.1 c.requires.fact_3.room
+slice_bounds-finish-end c = room_kept (omega arith) c.requires.fact_3.room
 
 pub slice_bounds-finish-end-2 : goal.slice_bounds-finish-end-2
-slice_bounds-finish-end-2 c = sym (length-take-le _ _ (room_kept c.buffers-1.given.1 c.requires.fact_3.room))
+slice_bounds-finish-end-2 c = sym (length-take-le _ _ (room_kept (omega arith) c.requires.fact_3.room))
 
 pub slice_bounds-finish-end-3 : goal.slice_bounds-finish-end-3
 slice_bounds-finish-end-3 c = room_kept c.render_voices-rounds.auto.src c.requires.fact_4.row
