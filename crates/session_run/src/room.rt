@@ -11,9 +11,9 @@ ghost use Rattle.session_calls.specs.Steps.{held};
 ghost use Rattle.session_run.specs.Lines.{room, open_lines, lines_of};
 ghost use Rattle.session_run.specs.Room.{Fits};
 
+use crate::WriteFailed;
 use params::Params;
 use renderer::Lengths;
-use std::io;
 
 // Room for a state's words.
 fn words() -> [u32; 1390]
@@ -72,7 +72,7 @@ pub fn make(
     at: Lengths,
     printed: &mut u32,
     out: &mut [u8],
-) -> io::Result<()>
+) -> Result<(), WriteFailed>
     requires p_value { (p ≡ parameters_of input.now) × (Small p) × (Fits at) }
     requires in_bounds { 65536 ≤ length out.old }
     requires printed_value { printed.old ≡ 0 }
@@ -124,7 +124,7 @@ fn open(
     reply: &mut [u8],
     printed: &mut u32,
     out: &mut [u8],
-) -> io::Result<()>
+) -> Result<(), WriteFailed>
     requires p_value { p ≡ parameters_of input.now }
     requires frames_len_bound { (length frames.old ≤ 128) × (length reply.old ≤ 16384) × (65536 ≤ length out.old) }
     requires printed_value { printed.old ≡ 0 }

@@ -6,7 +6,7 @@ ghost use Rattle.session.specs.Lines.{refused_line};
 ghost use Rattle.session_calls.specs.Steps.{held};
 ghost use Rattle.session_run.specs.Lines.{first_step, call_lines, lines_of, LineAt, turned, turn_of};
 
-use std::io;
+use crate::WriteFailed;
 
 // What a call gives to the run: whether it goes on, and the call's size.
 #[derive(Clone, Copy)]
@@ -16,21 +16,21 @@ struct After {
 }
 
 // Prints the first n bytes of `out`, which are the next line of the run that the input asks for: `printed` counts the lines.
-// Nothing else in the program prints, and no other error comes than that of the write, when the line doesn't count.
+// Nothing else in the program prints. Where the write fails, the line doesn't count.
 fn print_line(
     rt: &impl Print,
     input: &[u8],
     printed: &mut u32,
     out: &[u8],
     n: usize,
-) -> io::Result<()>
+) -> Result<(), WriteFailed>
     requires printed_bound { printed.old < 4294967295 }
     requires n_in_bounds { n ≤ length out.now }
     requires line_at { LineAt (lines_of input.now) printed.old (take n out.now) }
     ensures ok { OnOk result (printed.new ≡ printed.old + 1) }
     ensures err { OnErr result (printed.new ≡ printed.old) }
 {
-    rt.write_all(&out[..n])?;
+    crate::output::write(rt, &out[..n])?;
     *printed += 1;
     Ok(())
 }
@@ -42,7 +42,7 @@ pub fn refuse(
     number: u32,
     printed: &mut u32,
     out: &mut [u8],
-) -> io::Result<()>
+) -> Result<(), WriteFailed>
     requires in_bounds { 65536 ≤ length out.old }
     requires printed_value { printed.old ≡ 0 }
     requires input_value { lines_of input.now ≡ refused_line number ∷ [] }
@@ -67,7 +67,7 @@ fn turn(
     frames: &mut [f32],
     reply: &mut [u8],
     out: &mut [u8],
-) -> io::Result<After>
+) -> Result<After, WriteFailed>
     requires frames_len_bound { (length frames.old ≤ 128) × (length reply.old ≤ 16384) × (65536 ≤ length out.old) }
     requires printed_bound { printed.old < 4294967295 }
     requires line_at { LineAt (lines_of input.now) printed.old (first_step (drop at (calls_of input.now)) (memory_of input.now)
@@ -128,7 +128,7 @@ pub fn run(
     frames: &mut [f32],
     reply: &mut [u8],
     out: &mut [u8],
-) -> io::Result<()>
+) -> Result<(), WriteFailed>
     requires frames_len_bound { (length frames.old ≤ 128) × (length reply.old ≤ 16384) × (65536 ≤ length out.old) }
     requires printed_value { printed.old ≡ 0 }
     requires input_value { lines_of input.now ≡ call_lines (call_count input.now) (calls_of input.now) (memory_of input.now)
