@@ -18,5 +18,9 @@ hear-requires c =
 pub returns : goal.returns
 returns c =
     let w = material_made c.requires.fact_1 (c.source_of-s.ensures c.args.ranges.now) c.queue_of.ensures
-    (sound_in c.args.k c.args.contexts.now c.args.history.now) in record { contexts_after = c.hear.ensures.contexts_after ∙ (λ i. put c.args.contexts.now (c.args.k * 3) (contexts_of (played_sound (w i)))); history_after = c.hear.ensures.history_after ∙ (λ i. put c.args.history.now (c.args.k * 18) (history_of (played_sound (w i)))); out_after = heard_made c.requires.fact_1 (c.source_of-s.ensures c.args.ranges.now) c.queue_of.ensures
-            (sound_in c.args.k c.args.contexts.now c.args.history.now) _ c.hear.ensures.out_after }
+    (sound_in c.args.k c.args.contexts.now c.args.history.now) in record {
+      contexts_after = c.hear.ensures.contexts_after ∙ (λ i. put c.args.contexts.now (c.args.k * 3) (contexts_of (played_sound (w i))));
+      history_after = c.hear.ensures.history_after ∙ (λ i. put c.args.history.now (c.args.k * 18) (history_of (played_sound (w i))));
+      out_after = heard_made c.requires.fact_1 (c.source_of-s.ensures c.args.ranges.now) c.queue_of.ensures
+          (sound_in c.args.k c.args.contexts.now c.args.history.now) _ c.hear.ensures.out_after;
+    }

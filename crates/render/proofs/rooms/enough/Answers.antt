@@ -14,8 +14,7 @@ returns-then-room_samples-samples c =
     (λ e. absurd (true≢false (sym e)), λ e. samples_few c.args.k c.args.samples c.requires.1 less)
 
 pub returns : goal.returns
-returns c =
-    (
-      λ e. (omega (arith, c.room_floats.ensures, c.if-room_floats-floats.false), omega (arith, c.room_samples.ensures, c.if-room_samples-samples.false)),
-      λ e. absurd (true≢false e),
-    )
+returns c = (
+  λ e. (omega (arith, c.room_floats.ensures, c.if-room_floats-floats.false), omega (arith, c.room_samples.ensures, c.if-room_samples-samples.false)),
+  λ e. absurd (true≢false e),
+)
