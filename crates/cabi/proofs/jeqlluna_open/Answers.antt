@@ -1,0 +1,6 @@
+-- `cabi::jeqlluna_open` meets its contract. Assumes nothing.
+use Rattle.cabi.proofs.jeqlluna_open.Goals as goal
+
+pub returns : goal.returns
+returns c =
+    rw (c.number.ensures, ← c.parse.ensures) c.open-answer.ensures
