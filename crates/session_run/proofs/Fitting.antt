@@ -20,7 +20,7 @@ use Rattle.renderer.specs.Answers.{lengths_seen}
 use Rattle.session.specs.Input.{parameters_of}
 use Rattle.session.specs.Question.{accepted_of}
 use Rattle.session.specs.Asked.{Small, accepted_small}
-use Rattle.session_calls.specs.Steps.{Held, held}
+use Rattle.session_calls.specs.Steps.{held}
 use Rattle.session_run.specs.Lines.{zeros, silence, room}
 use Rattle.session_run.specs.Room.{Fits}
 

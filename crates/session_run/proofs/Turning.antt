@@ -7,8 +7,8 @@ use lib.ListN.{take, drop}
 use Rattle.fields.specs.Fields.{rest_of}
 use Rattle.session.specs.declared.input.Call.{Call}
 use Rattle.session.specs.Input.{memory_of, calls_of, call_of, size_of}
-use Rattle.session.specs.Text.{text, append}
-use Rattle.session_calls.specs.Steps.{Held, Step, call_step, Written, written, written_on}
+use Rattle.session.specs.Text.{text}
+use Rattle.session_calls.specs.Steps.{Held, call_step, Written, written, written_on}
 use Rattle.session_run.specs.Lines.{first_step, LineAt, turned, turn_of}
 use Rattle.session_run.proofs.Printed.{due}
 

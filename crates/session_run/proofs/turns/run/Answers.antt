@@ -1,5 +1,5 @@
 -- `session_run::turns::run`: before each turn, the lines that are still to be printed are those of the calls that are left. Assumes nothing.
-use Rattle.std.proofs.Common.{◌≡◌, ◌<◌, ◌∙◌, arith, rules, length}
+use Rattle.std.proofs.Common.{◌<◌, ◌∙◌, arith, rules, length}
 use Rattle.session_run.specs.Lines.{lines_of}
 use Rattle.session_run.proofs.Running.{run_end, turn_line, turn_near, turn_more, run_on}
 use Rattle.session_run.proofs.turns.run.Goals as goal
