@@ -13,7 +13,7 @@ use Rattle.alike.specs.Reads.{span}
 use Rattle.secrecy.specs.Sessions.{Call, Said, said_all, frames_at}
 use Rattle.secrecy.specs.Declared.{routed}
 use Rattle.secrecy.specs.Demand.{Agree, Condition}
-use Rattle.secrecy.specs.Secrecy.{demand3}
+use Rattle.secrecy.proofs.Secrecy.{demand3}
 use Rattle.secrecy.specs.Computing.{computing}
 use Rattle.secrecy.specs.Inputs.{no_mix, no_splitter, new_voice, wave, revision, params_for, slices_for, start_for}
 use Rattle.secrecy.specs.Inputs.{desk, updating_all, base, rendering, two_ranges, laid_apart, refused_render, pcm, memory_apart, frame}

@@ -1,3 +1,8 @@
+pub mod Renders
+pub mod Steps
+pub mod Lists
+pub mod Secrecy
+pub mod Orders
 pub mod Shared
 pub mod Same
 pub mod Agreement

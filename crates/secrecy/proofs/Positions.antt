@@ -25,7 +25,7 @@ use Rattle.secrecy.specs.Sessions.{Call, update, shape, updates, after, said, st
 use Rattle.secrecy.specs.Declared.{record_spans, input_spans}
 use Rattle.secrecy.specs.Demand.{begun}
 use Rattle.secrecy.specs.Updates.{reply_front}
-use Rattle.secrecy.specs.Lists.{None, unasked, both_at}
+use Rattle.secrecy.proofs.Lists.{None, unasked, both_at}
 use Rattle.secrecy.specs.Opens.{begun_both}
 use Rattle.secrecy.proofs.Status.{reply_status}
 

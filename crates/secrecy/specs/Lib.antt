@@ -6,11 +6,7 @@ pub mod Demand
 pub mod Both
 pub mod Updates
 pub mod Renders
-pub mod Steps
-pub mod Lists
 pub mod Opens
-pub mod Secrecy
-pub mod Orders
 pub mod Kept
 pub mod Range
 pub mod Computing

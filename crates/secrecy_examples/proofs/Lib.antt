@@ -3,3 +3,4 @@ pub mod Positions
 pub mod TwoRanges
 pub mod RangeRefusals
 pub mod Sections
+pub mod Late

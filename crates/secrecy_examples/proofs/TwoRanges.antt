@@ -16,7 +16,7 @@ use Rattle.alike.specs.Reads.{span}
 use Rattle.secrecy.specs.Sessions.{Call, frames_at}
 use Rattle.secrecy.specs.Declared.{declared, routed}
 use Rattle.secrecy.specs.Demand.{Agree, Condition}
-use Rattle.secrecy.specs.Secrecy.{demand3}
+use Rattle.secrecy.proofs.Secrecy.{demand3}
 use Rattle.secrecy.specs.Computing.{computing}
 use Rattle.secrecy.specs.Inputs.{params, revision, slices, start, start_for, desk, updating_all, base, two_ranges, laid_apart}
 use Rattle.secrecy.specs.Inputs.{rendering_in, pcm_voice, pcm, memory_apart, adpcm_voice, adpcm, frame, silence}

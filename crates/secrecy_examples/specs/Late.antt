@@ -8,7 +8,6 @@ use Rattle.state.specs.State.{State}
 use Rattle.secrecy.specs.Sessions.{Call, Said, succeeds, state_at, said_all, frames_at}
 use Rattle.secrecy.specs.Declared.{declared, routed}
 use Rattle.secrecy.specs.Demand.{AgreeOn, call_at, Condition}
-use Rattle.secrecy.specs.Secrecy.{demand3}
 use Rattle.secrecy.specs.Computing.{computing}
 use Rattle.secrecy.specs.Inputs.{laid_from, no_mix, params, revision, slices, start, start_for}
 use Rattle.secrecy.specs.Inputs.{desk, updating, updating_all, rendering, pcm_voice, pcm_later, pcm, frame, silence}
@@ -85,8 +84,3 @@ early (suc (suc zero)) l (suc k) inside t s = absurd (omega arith)
 early (suc (suc (suc zero))) l k inside t s = tt
 early (suc (suc (suc (suc zero)))) l k inside t s = λ r i x lo hi w. refl
 early (suc (suc (suc (suc (suc j))))) l k inside t s = absurd (omega arith)
-
--- demand 3's own does not hold
-pub unfair : Condition (params (revision 2)) st one other 4 → ⊥
-unfolding computing start_for desk updating_all rendering pcm
-unfair condition = frames_differ ((demand3 (params (revision 2)) slices slices refl refl one other refl).frames 4 condition)

@@ -17,7 +17,7 @@ use Rattle.calls.specs.Sections.{wide_in, most_renders, section_call}
 use Rattle.renders.proofs.Sections.{number_by, section_number_lem}
 use Rattle.secrecy.specs.Sessions.{Call, shape, state_at}
 use Rattle.secrecy.specs.Both.{Both, params_same}
-use Rattle.secrecy.specs.Lists.{None, unasked, said_same, both_at}
+use Rattle.secrecy.proofs.Lists.{None, unasked, said_same, both_at}
 use Rattle.secrecy.proofs.Shared.{nothing_else}
 use Rattle.secrecy_items.specs.Items.{Item, single, section, item_shape, after_item, said_item, said_items}
 use Rattle.secrecy_items.specs.Flat.{renders_from, calls_in, flat, calls_of_item, place_of, rounds_in}

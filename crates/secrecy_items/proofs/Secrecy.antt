@@ -10,10 +10,10 @@ use Rattle.calls.specs.Calls.{open_call, order_call}
 use Rattle.secrecy.specs.Sessions.{said, state_at, frames_at}
 use Rattle.secrecy.specs.Declared.{declared, routed}
 use Rattle.secrecy.specs.Demand.{ReadCondition, begun}
-use Rattle.secrecy.specs.Lists.{None}
+use Rattle.secrecy.proofs.Lists.{None}
 use Rattle.secrecy.specs.Opens.{begun_both}
-use Rattle.secrecy.specs.Secrecy.{demand3, places_same, frames_by_reads}
-use Rattle.secrecy.specs.Orders.{orders_same}
+use Rattle.secrecy.proofs.Secrecy.{demand3, places_same, frames_by_reads}
+use Rattle.secrecy.proofs.Orders.{orders_same}
 use Rattle.secrecy.proofs.Positions.{empty_update, positions_same}
 use Rattle.secrecy_items.specs.Items.{Item, item_shape, state_at_item, frames_at_item}
 use Rattle.secrecy_items.specs.Flat.{flat, calls_of_item, place_of}

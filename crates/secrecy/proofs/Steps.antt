@@ -22,7 +22,8 @@ use Rattle.secrecy.specs.Declared.{reads, spans_by, routing}
 use Rattle.secrecy.specs.Demand.{Agree, AgreeOn}
 use Rattle.secrecy.specs.Both.{Both}
 use Rattle.secrecy.specs.Updates.{room_by, update_is, update_step_lem}
-use Rattle.secrecy.specs.Renders.{asked_by, render_is, render_step_lem}
+use Rattle.secrecy.specs.Renders.{asked_by, render_is}
+use Rattle.secrecy.proofs.Renders.{render_step_lem}
 
 -- ---- a call of each kind
 

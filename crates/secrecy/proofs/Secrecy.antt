@@ -13,7 +13,7 @@ use Rattle.secrecy.specs.Sessions.{Call, update, render, shape, after, succeeds,
 use Rattle.secrecy.specs.Declared.{spans_by, declares, declared, routed}
 use Rattle.secrecy.specs.Demand.{AgreeOn, call_at, ReadCondition, begun, Demand3}
 use Rattle.secrecy.specs.Opens.{opens, opened_both, opened_silent}
-use Rattle.secrecy.specs.Lists.{None, said_same, frames_same, declared_same, routed_same}
+use Rattle.secrecy.proofs.Lists.{None, said_same, frames_same, declared_same, routed_same}
 
 -- ---- agreement on more is agreement on less
 

@@ -10,7 +10,7 @@ use Rattle.calls.specs.Calls.{open_call, order_given, order_call}
 use Rattle.secrecy.specs.Sessions.{Call, shape, state_at}
 use Rattle.secrecy.specs.Demand.{begun}
 use Rattle.secrecy.specs.Both.{Both}
-use Rattle.secrecy.specs.Lists.{None, both_at}
+use Rattle.secrecy.proofs.Lists.{None, both_at}
 use Rattle.secrecy.specs.Opens.{begun_both}
 
 order_both : {p : Params} {P : ℕ → Type 0} {a b : State} → Both p P a b → order_call a ≡ order_call b

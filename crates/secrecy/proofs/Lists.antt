@@ -16,7 +16,7 @@ use Rattle.secrecy.specs.Sessions.{Call, Shape, updates, renders, shape, after, 
 use Rattle.secrecy.specs.Declared.{reads, spans_by, declares, declared, routes_by, routing, routed}
 use Rattle.secrecy.specs.Demand.{call_at}
 use Rattle.secrecy.specs.Both.{Both}
-use Rattle.secrecy.specs.Steps.{Fair, Stepped, step, heard_after}
+use Rattle.secrecy.proofs.Steps.{Fair, Stepped, step, heard_after}
 
 or_left : (a b : Bool) → T a → T (a || b)
 or_left true b t = tt
