@@ -7,10 +7,10 @@ use Rattle.params.specs.declared.params.Params.{Params}
 use Rattle.state.specs.State.{State}
 use Rattle.secrecy.specs.Sessions.{Call, Said, succeeds, state_at, said_all, frames_at}
 use Rattle.secrecy.specs.Declared.{declared, routed}
-use Rattle.secrecy.specs.Demand.{AgreeOn, call_at, Condition}
+use Rattle.secrecy.specs.Demand.{AgreeOn, call_at}
 use Rattle.secrecy.specs.Computing.{computing}
-use Rattle.secrecy.specs.Inputs.{laid_from, no_mix, params, revision, slices, start, start_for}
-use Rattle.secrecy.specs.Inputs.{desk, updating, updating_all, rendering, pcm_voice, pcm_later, pcm, frame, silence}
+use Rattle.secrecy.specs.Inputs.{laid_from, no_mix, params, revision, start, start_for}
+use Rattle.secrecy.specs.Inputs.{desk, updating_all, rendering, pcm_voice, pcm_later, pcm, frame, silence}
 use Rattle.secrecy_examples.specs.Answers.{told, rendered}
 
 -- the voice plays to no mix; a render; it is sent to mix 0; a render of zeros
