@@ -160,18 +160,3 @@ void put_random(uint64_t *seed, uint8_t *to, size_t bytes) {
         to[k] = (uint8_t)below(seed, 256);
     }
 }
-
-Counts any_counts(uint64_t *seed) {
-    Counts c;
-    c.rate = below(seed, 3) == 0 ? below(seed, 200000) : 48000;
-    c.samples = 1 + below(seed, 256);
-    c.mix_buffers = below(seed, 97);
-    c.sub_mixes = below(seed, 2) == 0 ? 0 : below(seed, 32);
-    c.voices = below(seed, below(seed, 2) == 0 ? 5 : 65);
-    c.sinks = below(seed, 9);
-    c.effects = below(seed, 65);
-    c.splitters = below(seed, 33);
-    c.destinations = below(seed, 129);
-    c.revision = (int)below(seed, 10);
-    return c;
-}

@@ -70,7 +70,4 @@ uint64_t sum(uint64_t from, const void *data, size_t bytes);
 uint32_t below(uint64_t *seed, uint32_t most);
 void put_random(uint64_t *seed, uint8_t *to, size_t bytes);
 
-/* Counts that question 2 allows, few voices or many, by the seed. */
-Counts any_counts(uint64_t *seed);
-
 #endif

@@ -45,12 +45,3 @@ const uint8_t *lend(Region r, const uint8_t *bytes, size_t n, int at_end) {
     allow(r, 0);
     return p;
 }
-
-long comparisons = 0;
-
-void hold(const char *what, int same) {
-    comparisons++;
-    if (!same) {
-        fail("%s differs between guard pages", what);
-    }
-}

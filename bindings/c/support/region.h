@@ -24,8 +24,4 @@ void allow(Region r, int writing);
 /* Bytes that a call may only read. */
 const uint8_t *lend(Region r, const uint8_t *bytes, size_t n, int at_end);
 
-/* Ends the program where a call between guard pages did not do the same as on plain memory; and how often that was asked. */
-void hold(const char *what, int same);
-extern long comparisons;
-
 #endif
