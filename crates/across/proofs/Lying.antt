@@ -2,8 +2,9 @@
 use Prim.Native.Nat.{ℕ, ◌+◌, ◌-◌, ◌^◌, ◌≤◌, ◌<◌}
 use native.Mathlib.Omega.{arith}
 use mathlib.Core.List.{List}
-use mathlib.Core.Path.{◌≡◌, sym, ◌∙◌}
+use mathlib.Core.Path.{◌≡◌, ap, sym, ◌∙◌}
 use lib.ListN.{length, take, drop}
+use Rattle.std.proofs.Common.{Some}
 use Rattle.ranges.specs.declared.Stretch.{Stretch}
 use Rattle.ranges.specs.Ranges.{Range}
 use Rattle.ranges.specs.Ascending.{Ascending}
@@ -17,10 +18,10 @@ pub record Lies (rs : List Range) (m : List ℕ) (addr len : ℕ) (s : Stretch) 
   pub bytes : {end : ℕ} → end ≡ s.at + len → take (end - s.at) (drop s.at m) ≡ read_of rs m addr len
 
 pub lies : (m : List ℕ) → length m < 2 ^ 64 → {rs : List Range} → Ascending (length m) 0 rs → (addr len : ℕ) {s : Stretch}
-    → s ≡ stretch_of rs addr → len ≤ s.room → Lies rs m addr len s
+    → stretch_of rs addr ≡ Some s → len ≤ s.room → Lies rs m addr len s
 lies m short {rs} a addr len {s} e fits =
-    let d = direct_read m short a addr len (rw e at fits) in
+    let d = direct_read m short a addr len e fits in
     record {
-      inside = rw e d.0;
-      bytes = λ {end} p. let n : end - s.at ≡ len = omega arith in (λ i. take (n i) (drop (e i).at m)) ∙ sym d.2;
+      inside = d.0;
+      bytes = λ {end} p. let n : end - s.at ≡ len = omega arith in ap (λ (k : ℕ). take k (drop s.at m)) n ∙ sym d.2;
     }

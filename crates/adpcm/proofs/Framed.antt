@@ -13,7 +13,7 @@ use mir.Val.{SFits}
 use Rattle.adpcm.specs.Step.{step_of, step_fits}
 use Rattle.adpcm.specs.Decode.{pair_of, after, took_of, Run, run_from, floated, Decodes}
 use Rattle.adpcm.specs.declared.context.AdpcmContext.{AdpcmContext}
-use Rattle.adpcm.specs.declared.decode.Took.TheVariants.{Got}
+use Rattle.std.specs.Prelude.{Ok}
 use Rattle.adpcm.proofs.Going.{Going, begin, more, whole}
 use Rattle.adpcm.proofs.Frames.{joined, split, took_first, took_even, took_odd}
 
@@ -109,20 +109,20 @@ module _ (f : List ℕ) (k : List ℤ) (x₀ : AdpcmContext) (out₀ : List Floa
 
   module _ (long : length f ≡ 8) where
     took_high : (i b : ℕ) (h0 h1 : ℤ) → i < 7 → (0 < i → b ≡ head f)
-        → took_of f 0 k (0 + 2 * i) (context b h0 h1) ≡ Got (after (get_or f (i + 1) 0 / 16) k (context (head f) h0 h1))
+        → took_of f 0 k (0 + 2 * i) (context b h0 h1) ≡ Ok (after (get_or f (i + 1) 0 / 16) k (context (head f) h0 h1))
     took_high zero b h0 h1 l e = took_first k f long (context b h0 h1)
     took_high (suc i) b h0 h1 l e =
         let n = suc i in
         let at : (0 + 2 * n + 2) / 2 ≡ n + 1 = omega arith in
         ap (λ (c : ℕ). took_of f 0 k (0 + 2 * n) (context c h0 h1)) (e (omega arith))
         ∙ took_even k f long (0 + 2 * n) (context (head f) h0 h1) (omega arith) (omega arith) (omega arith)
-        ∙ ap (λ (j : ℕ). Got (after (get_or f j 0 / 16) k (context (head f) h0 h1))) at
+        ∙ ap (λ (j : ℕ). Ok (after (get_or f j 0 / 16) k (context (head f) h0 h1))) at
 
-    took_low : (i : ℕ) (h0 h1 : ℤ) → i < 7 → took_of f 0 k (0 + (2 * i + 1)) (context (head f) h0 h1) ≡ Got (after (get_or f (i + 1) 0 % 16) k (context (head f) h0 h1))
+    took_low : (i : ℕ) (h0 h1 : ℤ) → i < 7 → took_of f 0 k (0 + (2 * i + 1)) (context (head f) h0 h1) ≡ Ok (after (get_or f (i + 1) 0 % 16) k (context (head f) h0 h1))
     took_low i h0 h1 l =
         let at : (0 + (2 * i + 1) + 2) / 2 ≡ i + 1 = omega arith in
         took_odd k f long (0 + (2 * i + 1)) (context (head f) h0 h1) (omega arith) (omega arith)
-        ∙ ap (λ (j : ℕ). Got (after (get_or f j 0 % 16) k (context (head f) h0 h1))) at
+        ∙ ap (λ (j : ℕ). Ok (after (get_or f j 0 % 16) k (context (head f) h0 h1))) at
 
     module _ (size : length out₀ ≡ 14) where
       pub framed_begin : SFits w16 x₀.history0 → SFits w16 x₀.history1 → Framed out₀ x₀.history0 x₀.history1 0

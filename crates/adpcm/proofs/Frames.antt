@@ -11,10 +11,9 @@ use lib.IntN.{ℤ}
 use lib.ListN.{length, take, drop, get_or, length-drop}
 use lib.Seq.{length-take-le, get_or-take, get_or-drop}
 use Rattle.adpcm.specs.Places.{nibble_of, nibble_at_lem, nibble_parity}
-use Rattle.adpcm.specs.Decode.{half_of, after, headed, value_of, took_of, Run, run_on, run_from, run_of}
+use Rattle.adpcm.specs.Decode.{Took, half_of, after, headed, value_of, took_of, Run, run_on, run_from, run_of}
 use Rattle.adpcm.specs.declared.context.AdpcmContext.{AdpcmContext}
-use Rattle.adpcm.specs.declared.decode.Took.{Took}
-use Rattle.adpcm.specs.declared.decode.Took.TheVariants.{Short, Got}
+use Rattle.std.specs.Prelude.{Ok, Err}
 
 yes : (b : Bool) (t u : Took) → b ≡ true → cond b t u ≡ t
 yes b t u h = ap (λ (c : Bool). cond c t u) h
@@ -52,13 +51,13 @@ byte_at m j h p l =
 
 -- ---- the samples of a frame by itself
 module _ (k : List ℤ) (f : List ℕ) (long : length f ≡ 8) where
-  pub took_first : (y : AdpcmContext) → took_of f 0 k 0 y ≡ Got (after (get_or f 1 0 / 16) k (headed (get_or f 0 0) y))
+  pub took_first : (y : AdpcmContext) → took_of f 0 k 0 y ≡ Ok (after (get_or f 1 0 / 16) k (headed (get_or f 0 0) y))
   unfolding took_of value_of nibble_of
   took_first y =
-      no (leb (length f) 0) (Short y) _ (lt-leb (length f) 0 (omega arith))
+      no (leb (length f) 0) (Err y) _ (lt-leb (length f) 0 (omega arith))
       ∙ no (leb (length f) 1) _ _ (lt-leb (length f) 1 (omega arith))
 
-  took_later : (j : ℕ) (y : AdpcmContext) (high : Bool) → 0 < j → j < 14 → eqb (j % 2) 0 ≡ high → took_of f 0 k j y ≡ Got (after (half_of high (get_or f ((j + 2) / 2) 0)) k y)
+  took_later : (j : ℕ) (y : AdpcmContext) (high : Bool) → 0 < j → j < 14 → eqb (j % 2) 0 ≡ high → took_of f 0 k j y ≡ Ok (after (half_of high (get_or f ((j + 2) / 2) 0)) k y)
   unfolding took_of value_of
   took_later j y high p h e =
       let own : nibble_of j / 2 - 0 ≡ (j + 2) / 2 = omega (arith, byte_own j p h) in
@@ -66,10 +65,10 @@ module _ (k : List ℤ) (f : List ℕ) (long : length f ≡ 8) where
       ∙ (λ i. value_of f (own i) ((ap (λ (q : ℕ). eqb q 0) (nibble_parity j) ∙ e) i) k y)
       ∙ no (leb (length f) ((j + 2) / 2)) _ _ (lt-leb (length f) ((j + 2) / 2) (omega arith))
 
-  pub took_even : (j : ℕ) (y : AdpcmContext) → 0 < j → j < 14 → j % 2 ≡ 0 → took_of f 0 k j y ≡ Got (after (get_or f ((j + 2) / 2) 0 / 16) k y)
+  pub took_even : (j : ℕ) (y : AdpcmContext) → 0 < j → j < 14 → j % 2 ≡ 0 → took_of f 0 k j y ≡ Ok (after (get_or f ((j + 2) / 2) 0 / 16) k y)
   took_even j y p h e = took_later j y true p h (eq-eqb (j % 2) 0 e)
 
-  pub took_odd : (j : ℕ) (y : AdpcmContext) → j < 14 → j % 2 ≡ 1 → took_of f 0 k j y ≡ Got (after (get_or f ((j + 2) / 2) 0 % 16) k y)
+  pub took_odd : (j : ℕ) (y : AdpcmContext) → j < 14 → j % 2 ≡ 1 → took_of f 0 k j y ≡ Ok (after (get_or f ((j + 2) / 2) 0 % 16) k y)
   took_odd j y h e = took_later j y false (omega arith) h (ne_eqb (j % 2) 0 (λ z. omega arith))
 
 -- one run and then another
@@ -84,11 +83,11 @@ module _ (s : List ℕ) (base : ℕ) (k : List ℤ) where
       → ((y : AdpcmContext) → length (run a (m + 1) y).samples ≡ a → run (a + b) (m + 1) y ≡ joined (run a (m + 1) y) (run b (m + 1 + a) (run a (m + 1) y).context))
       → length (run_on t (run a (m + 1))).samples ≡ suc a
       → run_on t (run (a + b) (m + 1)) ≡ joined (run_on t (run a (m + 1))) (run b (m + suc a) (run_on t (run a (m + 1))).context)
-  split_on (Short y) a b m f h = absurd (omega arith)
-  split_on (Got y) a b m f h =
+  split_on (Err y) a b m f h = absurd (omega arith)
+  split_on (Ok y) a b m f h =
       let e : m + 1 + a ≡ m + suc a = omega arith in
-      ap (λ (r : Run). run_on (Got y) (λ z. r)) (f y (omega arith))
-      ∙ ap (λ (j : ℕ). joined (run_on (Got y) (run a (m + 1))) (run b j (run a (m + 1) y).context)) e
+      ap (λ (r : Run). run_on (Ok y) (λ z. r)) (f y (omega arith))
+      ∙ ap (λ (j : ℕ). joined (run_on (Ok y) (run a (m + 1))) (run b j (run a (m + 1) y).context)) e
 
   -- a run whose first part the bytes hold
   pub split : (a b m : ℕ) (x : AdpcmContext) → length (run a m x).samples ≡ a → run (a + b) m x ≡ joined (run a m x) (run b (m + a) (run a m x).context)
@@ -114,15 +113,15 @@ module _ (s : List ℕ) (base : ℕ) (k : List ℤ) where
     unfolding value_of
     value_same high y p q h e =
         ap (λ (j : ℕ). value_of s j high k y) e
-        ∙ (λ i. cond (held q h i) (Short y) (Got (after (half_of high (byte q h i)) k y)))
+        ∙ (λ i. cond (held q h i) (Err y) (Ok (after (half_of high (byte q h i)) k y)))
 
     took_first_same : (y : AdpcmContext) → took_of s base k (m + 0) y ≡ took_of frame 0 k 0 y
     unfolding took_of nibble_of
     took_first_same y =
         let e : nibble_of (m + 0) / 2 - base ≡ at + 0 = ap (λ (j : ℕ). nibble_of j / 2 - base) (add-zero m) ∙ sym place ∙ sym (add-zero at) in
         yes (eqb ((m + 0) % 14) 0) _ _ (eq-eqb ((m + 0) % 14) 0 (omega arith))
-        ∙ ap (λ (p : ℕ). cond (leb (length s) p) (Short y) (value_of s (p + 1) true k (headed (get_or s p 0) y))) e
-        ∙ (λ i. cond (held 0 (omega arith) i) (Short y) (value_same true (headed (byte 0 (omega arith) i) y) (at + 0 + 1) 1 (omega arith) (omega arith) i))
+        ∙ ap (λ (p : ℕ). cond (leb (length s) p) (Err y) (value_of s (p + 1) true k (headed (get_or s p 0) y))) e
+        ∙ (λ i. cond (held 0 (omega arith) i) (Err y) (value_same true (headed (byte 0 (omega arith) i) y) (at + 0 + 1) 1 (omega arith) (omega arith) i))
 
     took_later_same : (j : ℕ) (y : AdpcmContext) → 0 < j → j < 14 → took_of s base k (m + j) y ≡ took_of frame 0 k j y
     unfolding took_of

@@ -11,7 +11,7 @@ use lib.ListN.{length, take, drop, set, length-set, length-map, take-append-drop
 use lib.Seq.{take-suc-set, drop-set-lt, drop-drop, length-take-le}
 use Rattle.adpcm.specs.Decode.{took_of, Run, run_from, floated, Decodes}
 use Rattle.adpcm.specs.declared.context.AdpcmContext.{AdpcmContext}
-use Rattle.adpcm.specs.declared.decode.Took.TheVariants.{Short, Got}
+use Rattle.std.specs.Prelude.{Ok, Err}
 
 -- after `done` samples of a run of `count` from `start` on: what is left is a run from there
 pub record Going (s : List ℕ) (base : ℕ) (k : List ℤ) (count start : ℕ) (x₀ : AdpcmContext) (out₀ out : List Float) (x : AdpcmContext) (done : ℕ) : Type 0 where
@@ -23,12 +23,12 @@ pub record Going (s : List ℕ) (base : ℕ) (k : List ℤ) (count start : ℕ) 
 
 module _ (s : List ℕ) (base : ℕ) (k : List ℤ) where
   -- the run's first sample, by what it took
-  pub run_got : (n m : ℕ) (x y : AdpcmContext) → took_of s base k m x ≡ Got y
+  pub run_got : (n m : ℕ) (x y : AdpcmContext) → took_of s base k m x ≡ Ok y
       → run_from s base k (suc n) m x ≡ record { samples = y.history0 ∷ (run_from s base k n (m + 1) y).samples; context = (run_from s base k n (m + 1) y).context }
   unfolding run_from
   run_got n m x y e = rw e
 
-  pub run_short : (n m : ℕ) (x y : AdpcmContext) → took_of s base k m x ≡ Short y → run_from s base k (suc n) m x ≡ record { samples = []; context = y }
+  pub run_short : (n m : ℕ) (x y : AdpcmContext) → took_of s base k m x ≡ Err y → run_from s base k (suc n) m x ≡ record { samples = []; context = y }
   unfolding run_from
   run_short n m x y e = rw e
 
@@ -43,7 +43,7 @@ module _ (s : List ℕ) (base : ℕ) (k : List ℤ) where
     }
 
     pub more : (out : List Float) (x y : AdpcmContext) (done : ℕ) → count ≤ length out₀ → done < count
-        → Going s base k count start x₀ out₀ out x done → took_of s base k (start + done) x ≡ Got y
+        → Going s base k count start x₀ out₀ out x done → took_of s base k (start + done) x ≡ Ok y
         → Going s base k count start x₀ out₀ (set out done (of_int binary32 y.history0)) y (done + 1)
     more out x y done fits h g e =
         let n = count - (done + 1) in
@@ -80,7 +80,7 @@ module _ (s : List ℕ) (base : ℕ) (k : List ℤ) where
         }
 
     pub cut : (out : List Float) (x y : AdpcmContext) (done : ℕ) → count ≤ length out₀ → done < count
-        → Going s base k count start x₀ out₀ out x done → took_of s base k (start + done) x ≡ Short y
+        → Going s base k count start x₀ out₀ out x done → took_of s base k (start + done) x ≡ Err y
         → Decodes (run_from s base k count start x₀) out₀ out done y
     cut out x y done fits h g e =
         let left : count - done ≡ suc (count - (done + 1)) = omega arith in

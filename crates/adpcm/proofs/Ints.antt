@@ -1,5 +1,5 @@
 -- Bounds on the sum and the product of two integers, by `mag` (n of n and of -(n + 1)). Assumes nothing.
-use mathlib.Core.Path.{◌≡◌, sym, ap, subst, ◌∙◌}
+use mathlib.Core.Path.{◌≡◌, refl, sym, ap, subst, ◌∙◌}
 use mathlib.Core.Bool.{Bool, true, false, cond}
 use Prim.Native.Nat.{ℕ, zero, suc, ◌+◌, ◌*◌, ◌-◌, ◌%◌, ◌≤◌, ◌<◌, ◌^◌}
 use native.Mathlib.Nat.{le_trans, mul-le-mul_left, mul-le-mul_right}
@@ -11,7 +11,8 @@ use lib.Pow.{pow_mono, shl_exact}
 use mir.Syntax.{Width, w16, w64}
 use mir.Val.{hbits, SFits, to_z, of_z}
 use mir.Facts.{sfits_widen, to_z-of_z}
-use Rattle.adpcm.specs.Step.{signed4}
+use Rattle.std.specs.Int.{int_min, int_max}
+use Rattle.adpcm.specs.Step.{signed4, clamp_z}
 
 cond_mag : (t : Bool) (x y : ℤ) (n : ℕ) → mag x ≤ n → mag y ≤ n → mag (cond t x y) ≤ n
 cond_mag true x y n p q = p
@@ -73,3 +74,13 @@ shl_one s h = shl_exact 1 (11 + s) 64 (omega arith) (omega arith) ∙ omega arit
 -- what the machine reads back of a call's result, whose range is c.CALL.type_inv
 pub back : (w : Width) (z : ℤ) → mag z < 2 ^ hbits w → to_z w (of_z w z) ≡ z
 back w z p = to_z-of_z {w = w} {z = z} (record { sfits = p })
+
+-- the library's nearest number between two
+clamped_by : (n : ℕ) (t : Bool) → int_max (negsuc 32767) (cond t (pos 32767) (pos n)) ≡ cond t (pos 32767) (pos n)
+clamped_by n true = refl
+clamped_by n false = refl
+
+pub clamped : (z : ℤ) → int_max (negsuc 32767) (int_min z (pos 32767)) ≡ clamp_z z
+unfolding clamp_z
+clamped (pos n) = clamped_by n (ltb 32767 n)
+clamped (negsuc n) = refl

@@ -1,12 +1,10 @@
 -- Decoding by the format's description, sample by sample: `s` holds the bytes from the byte `base` on, `k` the eight pairs of coefficients.
-use Rattle.std.specs.Prelude.{ℕ, zero, suc, ◌+◌, ◌*◌, ◌-◌, ◌/◌, ◌%◌, Bool, true, false, cond, ◌≡◌, List, [], ◌∷◌, ◌++◌, map, Float, leb, eqb, ℤ, pos, length, get_or, drop}
+use Rattle.std.specs.Prelude.{ℕ, zero, suc, ◌+◌, ◌*◌, ◌-◌, ◌/◌, ◌%◌, Bool, true, false, cond, ◌≡◌, List, [], ◌∷◌, ◌++◌, map, Float, leb, eqb, ℤ, pos, length, get_or, drop, Result, Ok, Err}
 use Rattle.std.specs.Float.{binary32}
 use Rattle.std.specs.Float.Ieee.{of_int}
 use Rattle.adpcm.specs.Places.{nibble_of}
 use Rattle.adpcm.specs.Step.{step_of}
 use Rattle.adpcm.specs.declared.context.AdpcmContext.{AdpcmContext}
-use Rattle.adpcm.specs.declared.decode.Took.{Took}
-use Rattle.adpcm.specs.declared.decode.Took.TheVariants.{Short, Got}
 
 -- a byte's high nibble, or its low one
 abbrev pub half_of : Bool → ℕ → ℕ
@@ -30,16 +28,20 @@ after v k x =
 abbrev pub headed : ℕ → AdpcmContext → AdpcmContext
 headed b x = record { pred_scale = b; history0 = x.history0; history1 = x.history1 }
 
+-- what one sample leaves: it is the context's later sample, or the bytes had run out
+abbrev pub Took : Type 0
+Took = Result AdpcmContext AdpcmContext
+
 -- a sample whose nibble is in the byte at a place of s
 unfoldable pub value_of : List ℕ → ℕ → Bool → List ℤ → AdpcmContext → Took
-value_of s at high k x = cond (leb (length s) at) (Short x) (Got (after (half_of high (get_or s at 0)) k x))
+value_of s at high k x = cond (leb (length s) at) (Err x) (Ok (after (half_of high (get_or s at 0)) k x))
 
 -- sample m: at a frame's first sample the header is read first, and within a frame the context has it; high nibbles come first
 unfoldable pub took_of : List ℕ → ℕ → List ℤ → ℕ → AdpcmContext → Took
 took_of s base k m x =
     let at = nibble_of m / 2 - base in
     cond (eqb (m % 14) 0)
-    (cond (leb (length s) at) (Short x) (value_of s (at + 1) true k (headed (get_or s at 0) x)))
+    (cond (leb (length s) at) (Err x) (value_of s (at + 1) true k (headed (get_or s at 0) x)))
     (value_of s at (eqb (nibble_of m % 2) 0) k x)
 
 -- what a run of samples gives: the samples, and the context that is left
@@ -49,8 +51,8 @@ pub record Run : Type 0 where
 
 -- a run stops where the bytes run out; a header that was read before that stays
 abbrev pub run_on : Took → (AdpcmContext → Run) → Run
-run_on (Short x) f = record { samples = []; context = x }
-run_on (Got x) f = record { samples = x.history0 ∷ (f x).samples; context = (f x).context }
+run_on (Err x) f = record { samples = []; context = x }
+run_on (Ok x) f = record { samples = x.history0 ∷ (f x).samples; context = (f x).context }
 
 -- n samples from sample m on
 unfoldable pub run_from : List ℕ → ℕ → List ℤ → ℕ → ℕ → AdpcmContext → Run

@@ -1,13 +1,11 @@
 -- Laws of a run of samples: how many there are depends on lengths and places alone, they fit 16 bits, and none leaves the context. Assumes nothing.
-use Rattle.std.specs.Prelude.{◌≡◌, refl, Bool, true, false, not, cond, List, [], ◌∷◌, ℕ, zero, suc, ◌+◌, ◌-◌, ◌%◌, ◌/◌, ◌≤◌, leb, ltb, eqb, ℤ, pos, length, get_or}
+use Rattle.std.specs.Prelude.{◌≡◌, refl, Bool, true, false, not, cond, List, [], ◌∷◌, ℕ, zero, suc, ◌+◌, ◌-◌, ◌%◌, ◌/◌, ◌≤◌, leb, ltb, eqb, ℤ, pos, length, get_or, Ok, Err}
 use Rattle.std.proofs.Common.{sym, ap, ◌∙◌, arith, leb-true, le-leb, SFits}
 use Rattle.std.specs.Int.{w16}
 use Rattle.adpcm.specs.Places.{nibble_of}
 use Rattle.adpcm.specs.Step.{step_fits}
-use Rattle.adpcm.specs.Decode.{value_of, took_of, Run, run_on, run_from, run_of}
+use Rattle.adpcm.specs.Decode.{Took, value_of, took_of, Run, run_on, run_from, run_of}
 use Rattle.adpcm.specs.declared.context.AdpcmContext.{AdpcmContext}
-use Rattle.adpcm.specs.declared.decode.Took.{Took}
-use Rattle.adpcm.specs.declared.decode.Took.TheVariants.{Short, Got}
 
 -- whether len bytes, the first of which is the byte base, hold sample m, with its header where it is a frame's first
 unfoldable pub holds : ℕ → ℕ → ℕ → Bool
@@ -30,14 +28,14 @@ count_of len start count = count_from len (nibble_of start / 2) count start
 -- ---- the number of samples does not depend on what the bytes are
 
 abbrev got : Took → Bool
-got (Short x) = false
-got (Got x) = true
+got (Err x) = false
+got (Ok x) = true
 
-got_value : (b : Bool) (x y : AdpcmContext) → got (cond b (Short x) (Got y)) ≡ not b
+got_value : (b : Bool) (x y : AdpcmContext) → got (cond b (Err x) (Ok y)) ≡ not b
 got_value true x y = refl
 got_value false x y = refl
 
-got_header : (b : Bool) (x : AdpcmContext) (t : Took) (c : Bool) → (b ≡ true → c ≡ false) → got t ≡ c → got (cond b (Short x) t) ≡ c
+got_header : (b : Bool) (x : AdpcmContext) (t : Took) (c : Bool) → (b ≡ true → c ≡ false) → got t ≡ c → got (cond b (Err x) t) ≡ c
 got_header true x t c h e = sym (h refl)
 got_header false x t c h e = e
 
@@ -56,8 +54,8 @@ got_holds s base k m x =
     (got_value (leb (length s) at) _ _)
 
 length_on : (t : Took) (f : AdpcmContext → Run) (n : ℕ) → ((x : AdpcmContext) → length (f x).samples ≡ n) → length (run_on t f).samples ≡ one_more (got t) n
-length_on (Short x) f n h = refl
-length_on (Got x) f n h = ap suc (h x)
+length_on (Err x) f n h = refl
+length_on (Ok x) f n h = ap suc (h x)
 
 length_from : (s : List ℕ) (base : ℕ) (k : List ℤ) (n m : ℕ) (x : AdpcmContext) → length (run_from s base k n m x).samples ≡ count_from (length s) base n m
 unfolding run_from count_from
@@ -91,8 +89,8 @@ cons_fits z l p q zero = p
 cons_fits z l p q (suc i) = q i
 
 abbrev TookFits : Took → Type 0
-TookFits (Short x) = SFits w16 (pos 0)
-TookFits (Got x) = SFits w16 x.history0
+TookFits (Err x) = SFits w16 (pos 0)
+TookFits (Ok x) = SFits w16 x.history0
 
 cond_fits : (b : Bool) (t u : Took) → TookFits t → TookFits u → TookFits (cond b t u)
 cond_fits true t u p q = p
@@ -110,8 +108,8 @@ took_fits s base k m x =
     (value_fits _ _ _ _ _)
 
 on_fits : (t : Took) (f : AdpcmContext → Run) → TookFits t → ((x : AdpcmContext) → Fits (f x).samples) → Fits (run_on t f).samples
-on_fits (Short x) f p q = none_fits
-on_fits (Got x) f p q = cons_fits x.history0 (f x).samples p (q x)
+on_fits (Err x) f p q = none_fits
+on_fits (Ok x) f p q = cons_fits x.history0 (f x).samples p (q x)
 
 from_fits : (s : List ℕ) (base : ℕ) (k : List ℤ) (n m : ℕ) (x : AdpcmContext) → Fits (run_from s base k n m x).samples
 unfolding run_from

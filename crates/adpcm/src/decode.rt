@@ -2,19 +2,12 @@ ghost use Rattle.std.specs.Prelude.{◌≡◌, ◌/◌, ◌≤◌, ◌^◌, leng
 ghost use Rattle.adpcm.specs.Places.{nibble_of};
 ghost use Rattle.adpcm.specs.Decode.{half_of, value_of, took_of, run_of, Decodes};
 ghost use Rattle.adpcm.specs.Runs.{count_of};
-ghost use Rattle.adpcm.specs.Answer.{seen, outcome_of};
+ghost use Rattle.adpcm.specs.Answer.{number_of, seen, outcome_of};
 
-use crate::context::AdpcmContext;
+use crate::context::{AdpcmContext, pair};
 use crate::frame::{begins_frame, decode_frame};
 use crate::places::{Byte, Sample, adpcm_nibble, adpcm_nibble_byte, adpcm_size_samples};
 use crate::step::step;
-
-// What one sample leaves: the bytes had run out, or history0 is the sample.
-#[derive(Clone, Copy)]
-pub enum Took {
-    Short(AdpcmContext),
-    Got(AdpcmContext),
-}
 
 // A byte's high nibble, or its low one.
 fn half(b: u8, high: bool) -> u8
@@ -23,51 +16,50 @@ fn half(b: u8, high: bool) -> u8
     if high { b / 16 } else { b % 16 }
 }
 
-// The sample whose nibble is in the byte at a place of the data.
+// The sample whose nibble is in the byte at a place of the data: the context's history0 then. An error, the context as it was: the bytes
+// had run out.
 fn take_value(
     data: &[u8],
     at: usize,
     high: bool,
     coefficients: &[i16; 16],
     ctx: AdpcmContext,
-) -> Took
+) -> Result<AdpcmContext, AdpcmContext>
     ensures { result ≡ value_of «data».now at high coefficients.now ctx }
 {
     if data.len() <= at {
-        return Took::Short(ctx);
+        return Err(ctx);
     }
     let v = half(data[at], high);
     let header = ctx.pred_scale;
-    let p = (header / 16 % 8 * 2) as usize;
-    let c = coefficients[p];
-    let d = coefficients[p + 1];
-    let h0 = ctx.history0;
-    let h1 = ctx.history1;
-    let s = step(v, header % 16, c, d, h0, h1);
-    Took::Got(AdpcmContext {
+    let (c, d) = pair(coefficients, header);
+    let s = step(v, header % 16, c, d, ctx.history0, ctx.history1);
+    Ok(AdpcmContext {
         pred_scale: header,
         history0: s,
-        history1: h0,
+        history1: ctx.history0,
     })
 }
 
-// Sample m, of data whose first byte is base. At a frame's start its header is read first.
-fn take_one(data: &[u8], base: Byte, m: Sample, coefficients: &[i16; 16], ctx: AdpcmContext) -> Took
+// Sample m, of data whose first byte is base. At a frame's start its header is read first, and an error's context has it.
+fn take_one(
+    data: &[u8],
+    base: Byte,
+    m: Sample,
+    coefficients: &[i16; 16],
+    ctx: AdpcmContext,
+) -> Result<AdpcmContext, AdpcmContext>
     requires { (m.0 ≤ 2 ^ 63) × (base.0 ≤ nibble_of m.0 / 2) }
     ensures { result ≡ took_of «data».now base.0 coefficients.now m.0 ctx }
 {
     let at = adpcm_nibble_byte(m).index_from(base);
     if m.starts_frame() {
         if data.len() <= at {
-            return Took::Short(ctx);
+            return Err(ctx);
         }
-        let header = data[at];
-        let h0 = ctx.history0;
-        let h1 = ctx.history1;
         let read = AdpcmContext {
-            pred_scale: header as u16,
-            history0: h0,
-            history1: h1,
+            pred_scale: u16::from(data[at]),
+            ..ctx
         };
         take_value(data, at + 1, true, coefficients, read)
     } else {
@@ -83,11 +75,7 @@ pub fn adpcm_count(bytes: u64, start: Sample, want: u32) -> u32
 {
     let end = adpcm_nibble_byte(start).plus(bytes);
     let left = adpcm_size_samples(end).past(start);
-    if left < want as u64 {
-        left as u32
-    } else {
-        want
-    }
+    left.min(u64::from(want)) as u32
 }
 
 #[derive(Clone, Copy)]
@@ -124,12 +112,9 @@ pub fn decode_adpcm(
             done += 14;
         } else {
             match take_one(data, base, m, coefficients, x) {
-                Took::Short(y) => {
-                    return Decoded { done, context: y };
-                }
-                Took::Got(y) => {
-                    let h = y.history0;
-                    out[done] = h as f32;
+                Err(y) => return Decoded { done, context: y },
+                Ok(y) => {
+                    out[done] = f32::from(y.history0);
                     x = y;
                     done += 1;
                 }
@@ -139,13 +124,25 @@ pub fn decode_adpcm(
     Decoded { done, context: x }
 }
 
-#[derive(Clone, Copy)]
-pub enum AdpcmAnswer {
-    Done(Decoded),
-    // 8: the start is above 2^60.
+// Why a call is refused.
+#[derive(Clone, Copy, Debug, PartialEq, Eq)]
+pub enum AdpcmError {
+    // The start is above 2^60.
     FarStart,
-    // 9: the output is shorter than count.
+    // The output is shorter than count.
     ShortOutput,
+}
+
+impl AdpcmError {
+    // The number of the question that refuses it.
+    pub fn number(self) -> u32
+        ensures { result ≡ number_of self }
+    {
+        match self {
+            AdpcmError::FarStart => 8,
+            AdpcmError::ShortOutput => 9,
+        }
+    }
 }
 
 // The call for ADPCM alone: decode_adpcm, of any arguments.
@@ -156,14 +153,14 @@ pub fn decode_adpcm_checked(
     coefficients: &[i16; 16],
     ctx: AdpcmContext,
     out: &mut [f32],
-) -> AdpcmAnswer
+) -> Result<Decoded, AdpcmError>
     ensures { seen result out.new ≡ outcome_of «data».now start.0 count coefficients.now ctx out.old }
 {
     if 0x1000_0000_0000_0000 < start.0 {
-        return AdpcmAnswer::FarStart;
+        return Err(AdpcmError::FarStart);
     }
     if out.len() < count {
-        return AdpcmAnswer::ShortOutput;
+        return Err(AdpcmError::ShortOutput);
     }
-    AdpcmAnswer::Done(decode_adpcm(data, start, count, coefficients, ctx, out))
+    Ok(decode_adpcm(data, start, count, coefficients, ctx, out))
 }

@@ -2,7 +2,7 @@
 ghost use Rattle.std.specs.Prelude.{◌≡◌, ◌%◌, ◌+◌, ◌≤◌, T, length};
 ghost use Rattle.adpcm.specs.Decode.{run_of, Decodes};
 
-use crate::context::AdpcmContext;
+use crate::context::{AdpcmContext, pair};
 use crate::places::Sample;
 use crate::step::step;
 
@@ -10,19 +10,7 @@ use crate::step::step;
 pub fn begins_frame(bytes: usize, at: usize, m: Sample, count: usize, done: usize) -> bool
     ensures { T result → (m.0 % 14 ≡ 0) × (at + 8 ≤ bytes) × (done + 14 ≤ count) }
 {
-    if count < 14 {
-        return false;
-    }
-    if count - 14 < done {
-        return false;
-    }
-    if bytes < 8 {
-        return false;
-    }
-    if bytes - 8 < at {
-        return false;
-    }
-    m.starts_frame()
+    14 <= count && done <= count - 14 && 8 <= bytes && at <= bytes - 8 && m.starts_frame()
 }
 
 // The 14 samples of a whole frame: its header is read once.
@@ -35,33 +23,24 @@ pub fn decode_frame(
     requires { (length frame.now ≡ 8) × (length out.old ≡ 14) }
     ensures { Decodes (run_of frame.now 0 14 coefficients.now ctx) out.old out.new 14 result }
 {
-    let header = frame[0] as u16;
+    let header = u16::from(frame[0]);
     let scale = header % 16;
-    let p = (header / 16 % 8 * 2) as usize;
-    let c = coefficients[p];
-    let d = coefficients[p + 1];
-    let first = ctx.history0;
-    let second = ctx.history1;
+    let (c, d) = pair(coefficients, header);
     let mut x = AdpcmContext {
         pred_scale: header,
-        history0: first,
-        history1: second,
+        ..ctx
     };
-    let mut i = 0usize;
-    while i < 7 {
+    for i in 0..7 {
         let b = frame[i + 1];
-        let h0 = x.history0;
-        let h1 = x.history1;
-        let high = step(b / 16, scale, c, d, h0, h1);
-        let low = step(b % 16, scale, c, d, high, h0);
-        out[2 * i] = high as f32;
-        out[2 * i + 1] = low as f32;
+        let high = step(b / 16, scale, c, d, x.history0, x.history1);
+        let low = step(b % 16, scale, c, d, high, x.history0);
+        out[2 * i] = f32::from(high);
+        out[2 * i + 1] = f32::from(low);
         x = AdpcmContext {
             pred_scale: header,
             history0: low,
             history1: high,
         };
-        i += 1;
     }
     x
 }

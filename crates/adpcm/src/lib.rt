@@ -14,8 +14,8 @@ mod frame;
 mod places;
 mod step;
 
-pub use context::{AdpcmContext, coefficients};
-pub use decode::{AdpcmAnswer, Decoded, adpcm_count, decode_adpcm, decode_adpcm_checked};
+pub use context::{AdpcmContext, coefficients, pair};
+pub use decode::{AdpcmError, Decoded, adpcm_count, decode_adpcm, decode_adpcm_checked};
 pub use places::{
     Byte, Nibble, Sample, adpcm_nibble, adpcm_nibble_byte, adpcm_size, adpcm_size_samples,
 };

@@ -27,11 +27,7 @@ impl Sample {
     pub fn past(self, other: Sample) -> u64
         ensures { result ≡ self.0 - other.0 }
     {
-        if other.0 < self.0 {
-            self.0 - other.0
-        } else {
-            0
-        }
+        self.0.saturating_sub(other.0)
     }
 
     // Whether it is the first of a frame, and the frame's header stands before it.
@@ -72,11 +68,7 @@ impl Byte {
     pub fn past(self, other: Byte) -> u64
         ensures { result ≡ self.0 - other.0 }
     {
-        if other.0 < self.0 {
-            self.0 - other.0
-        } else {
-            0
-        }
+        self.0.saturating_sub(other.0)
     }
 
     // Its place in a slice whose first byte is base.

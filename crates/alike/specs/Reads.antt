@@ -1,6 +1,6 @@
 -- The reads of sample memory that a voice's turn makes (mixer.rs `fetch`), each of which succeeds: the coefficients, then for each round
 -- the context and the samples. They follow from the voice and the render, and no byte of sample memory. Definitions only.
-use Rattle.std.specs.Prelude.{Bool, true, false, cond, List, [], ◌∷◌, ◌++◌, ℕ, ◌*◌}
+use Rattle.std.specs.Prelude.{Bool, true, false, cond, List, [], ◌∷◌, ◌++◌, Option, Some, None, ℕ, ◌*◌}
 use Rattle.voice.specs.declared.Voice.{Voice}
 use Rattle.plan.specs.Source.{Source}
 use Rattle.plan.specs.declared.Act.{Act}
@@ -28,10 +28,15 @@ decode_reads s (Pcm width addr n) = span addr (n * (width * s.channels)) ∷ []
 decode_reads s (Adpcm want addr bytes start) = span addr bytes ∷ []
 decode_reads s (Silence n) = []
 
+-- the context of a round, where it is read anew
+unfoldable pub context_reads : Option ℕ → List Span
+context_reads None = []
+context_reads (Some addr) = span addr 6 ∷ []
+
 -- a round: its context where that is read anew, then its samples
 unfoldable pub act_reads : Source → Act → List Span
-unfolding decode_reads
-act_reads s a = cond a.renews (span a.context 6 ∷ []) [] ++ decode_reads s a.decode
+unfolding context_reads decode_reads
+act_reads s a = context_reads a.context ++ decode_reads s a.decode
 
 unfoldable pub acts_reads : Source → List Act → List Span
 unfolding act_reads

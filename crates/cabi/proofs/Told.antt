@@ -3,19 +3,20 @@ use Prim.Native.Nat.{ℕ}
 use mathlib.Core.Bool.{Bool, true, false, cond}
 use mathlib.Core.List.{List}
 use mathlib.Core.Path.{◌≡◌, refl, sym, ap, ◌∙◌}
+use Rattle.std.specs.Prelude.{Result, Ok, Err}
 use borrow.Author.Tests.{eq-eqb, ne_eqb}
 use lib.Dec.{eqb}
+use Rattle.std.specs.Prelude.{Result, Ok, Err}
 use lib.ListN.{length}
 use Rattle.adpcm.specs.declared.context.AdpcmContext.{AdpcmContext}
 use Rattle.dsp_header.specs.declared.DspHeader.{DspHeader}
 use Rattle.dsp_header.specs.Header.{header_size}
 use Rattle.dsp_file.specs.File.{ReadOutcome, data_of}
 use Rattle.encoder.specs.Answer.{encode_seen}
-use Rattle.encoder.specs.declared.encode.EncodeAnswer.{EncodeAnswer}
-use Rattle.encoder.specs.declared.encode.EncodeAnswer.TheVariants.{Done, ShortOutput}
+use Rattle.encoder.specs.declared.encode.EncodeError.{EncodeError}
+use Rattle.encoder.specs.declared.frame.Encoding.{Encoding}
 use Rattle.merging.specs.Answer.{merge_seen}
-use Rattle.merging.specs.declared.MergeAnswer.{MergeAnswer}
-use Rattle.merging.specs.declared.MergeAnswer.TheVariants.{Merged, Counts, Voices, Channels, Output}
+use Rattle.merging.specs.declared.MergeError.{MergeError}
 use Rattle.cabi.specs.Dsp.{Placed, placed}
 use Rattle.cabi.specs.Encode.{encode_left, encode_told}
 use Rattle.cabi.specs.Merge.{merge_in, merge_told}
@@ -56,14 +57,11 @@ module _ (o : ReadOutcome) (file : List ℕ) {n : ℕ} {h : DspHeader} (en : n �
   placed_refused f = by false (ne_eqb o.number 0 (λ z. f (en ∙ z))) refl refl
 
 -- both ways of reading an encoding's answer agree
-pub encode_seen_lem : (a : EncodeAnswer) (out : List ℕ) → encode_left (encode_told a) out ≡ encode_seen a out
-encode_seen_lem (Done n e) out = refl
-encode_seen_lem ShortOutput out = refl
+pub encode_seen_lem : (a : Result (ℕ × Encoding) EncodeError) (out : List ℕ) → encode_left (encode_told a) out ≡ encode_seen a out
+encode_seen_lem (Ok a) out = refl
+encode_seen_lem (Err e) out = refl
 
 -- and a merge's
-pub merge_seen_lem : (a : MergeAnswer) (out : List ℕ) → merge_in (merge_told a) out ≡ merge_seen a out
-merge_seen_lem (Merged size) out = refl
-merge_seen_lem Counts out = refl
-merge_seen_lem Voices out = refl
-merge_seen_lem Channels out = refl
-merge_seen_lem Output out = refl
+pub merge_seen_lem : (a : Result ℕ MergeError) (out : List ℕ) → merge_in (merge_told a) out ≡ merge_seen a out
+merge_seen_lem (Ok size) out = refl
+merge_seen_lem (Err e) out = refl

@@ -1,10 +1,10 @@
 -- The arguments and the answer of `jeqlluna_decode_adpcm` as those of `adpcm::decode_adpcm_checked`. Assumes nothing.
-use Rattle.std.specs.Prelude.{List, ◌≡◌, refl, ℕ, Float, ℤ, pos, get_or}
+use Rattle.std.specs.Prelude.{List, ◌≡◌, refl, ℕ, Float, ℤ, pos, get_or, Result, Ok, Err}
 use Rattle.rows.specs.Tables.{table}
 use Rattle.adpcm.specs.declared.context.AdpcmContext.{AdpcmContext}
-use Rattle.adpcm.specs.declared.decode.AdpcmAnswer.{AdpcmAnswer}
-use Rattle.adpcm.specs.declared.decode.AdpcmAnswer.TheVariants.{Done, FarStart, ShortOutput}
-use Rattle.adpcm.specs.Answer.{Outcome, seen}
+use Rattle.adpcm.specs.declared.decode.AdpcmError.{AdpcmError}
+use Rattle.adpcm.specs.declared.decode.Decoded.{Decoded}
+use Rattle.adpcm.specs.Answer.{Outcome, number_of, seen}
 use Rattle.cabi.specs.declared.decode.JeqllunaContext.{JeqllunaContext}
 use Rattle.cabi.specs.declared.decode.JeqllunaDecoded.{JeqllunaDecoded}
 
@@ -25,13 +25,11 @@ abbrev pub decoded : ℕ → ℕ → ℕ → ℤ → ℤ → JeqllunaDecoded
 decoded n done p h0 h1 = record { number = n; done = done; context = record { pred_scale = p; history0 = h0; history1 = h1 } }
 
 -- an answer in numbers
-abbrev pub decode_told : AdpcmAnswer → JeqllunaDecoded
-decode_told (Done d) = decoded 0 d.done d.context.pred_scale d.context.history0 d.context.history1
-decode_told FarStart = decoded 8 0 0 (pos 0) (pos 0)
-decode_told ShortOutput = decoded 9 0 0 (pos 0) (pos 0)
+abbrev pub decode_told : Result Decoded AdpcmError → JeqllunaDecoded
+decode_told (Ok d) = decoded 0 d.done d.context.pred_scale d.context.history0 d.context.history1
+decode_told (Err e) = decoded (number_of e) 0 0 (pos 0) (pos 0)
 
 -- both ways of reading an answer agree
-pub told_seen : (a : AdpcmAnswer) (out : List Float) → decode_left (decode_told a) out ≡ seen a out
-told_seen (Done d) out = refl
-told_seen FarStart out = refl
-told_seen ShortOutput out = refl
+pub told_seen : (a : Result Decoded AdpcmError) (out : List Float) → decode_left (decode_told a) out ≡ seen a out
+told_seen (Ok d) out = refl
+told_seen (Err e) out = refl

@@ -1,8 +1,8 @@
 -- The headers and answers of the calls for DSP files as those of `dsp_file`. Definitions only.
-use Rattle.std.specs.Prelude.{ℕ, cond, List, eqb, length}
+use Rattle.std.specs.Prelude.{ℕ, cond, List, eqb, length, Result}
 use Rattle.dsp_header.specs.declared.DspHeader.{DspHeader}
 use Rattle.dsp_header.specs.Header.{header_size}
-use Rattle.dsp_file.specs.declared.DspWritten.{DspWritten}
+use Rattle.dsp_file.specs.declared.DspError.{DspError}
 use Rattle.dsp_file.specs.File.{ReadOutcome, WriteOutcome, data_of, write_left, write_number, write_size}
 use Rattle.cabi.specs.Decode.{context_in}
 use Rattle.cabi.specs.declared.dsp.JeqllunaDsp.{JeqllunaDsp}
@@ -48,7 +48,7 @@ read_in r = record { number = r.number; header = header_in r.header; from = r.«
 
 -- ---- writing
 
-abbrev pub write_told : DspWritten → JeqllunaDspWritten
+abbrev pub write_told : Result ℕ DspError → JeqllunaDspWritten
 write_told a = record { number = write_number a; size = write_size a }
 
 -- an answer with the output as the call left it

@@ -1,8 +1,8 @@
 -- The answer of `jeqlluna_encode_adpcm` as that of `encoder::encode_adpcm`. Definitions only.
-use Rattle.std.specs.Prelude.{ℕ, List, ℤ, pos}
-use Rattle.encoder.specs.declared.encode.EncodeAnswer.{EncodeAnswer}
-use Rattle.encoder.specs.declared.encode.EncodeAnswer.TheVariants.{Done, ShortOutput}
-use Rattle.encoder.specs.Answer.{EncodeOutcome}
+use Rattle.std.specs.Prelude.{ℕ, List, ℤ, pos, Result, Ok, Err}
+use Rattle.encoder.specs.declared.encode.EncodeError.{EncodeError}
+use Rattle.encoder.specs.declared.frame.Encoding.{Encoding}
+use Rattle.encoder.specs.Answer.{EncodeOutcome, number_of}
 use Rattle.cabi.specs.Decode.{context_in}
 use Rattle.cabi.specs.declared.encode.JeqllunaEncoded.{JeqllunaEncoded}
 
@@ -16,6 +16,6 @@ encoded_as n size p h0 h1 e =
     record { number = n; size = size; context = record { pred_scale = p; history0 = h0; history1 = h1 }; error = e }
 
 -- an answer in numbers
-abbrev pub encode_told : EncodeAnswer → JeqllunaEncoded
-encode_told (Done size e) = encoded_as 0 size e.context.pred_scale e.context.history0 e.context.history1 e.error
-encode_told ShortOutput = encoded_as 15 0 0 (pos 0) (pos 0) 0
+abbrev pub encode_told : Result (ℕ × Encoding) EncodeError → JeqllunaEncoded
+encode_told (Ok a) = encoded_as 0 a.0 a.1.context.pred_scale a.1.context.history0 a.1.context.history1 a.1.error
+encode_told (Err e) = encoded_as (number_of e) 0 0 (pos 0) (pos 0) 0

@@ -1,10 +1,11 @@
 // What the calls on a renderer answer, in numbers. Where `number` is not 0 the rest is 0.
 ghost use Rattle.std.specs.Prelude.{◌≡◌};
-ghost use Rattle.renderer.specs.Answers.{lengths_seen, reply_length_seen, order_seen};
+ghost use Rattle.renderer.specs.Answers.{lengths_seen, reply_length_seen, open_number, order_seen};
 ghost use Rattle.cabi.specs.Answers.{lengths_left, length_in, update_told, render_told, section_told, order_in};
 
+use desk_order::MixOrder;
 use renderer::{
-    LengthsAnswer, OrderAnswer, RenderAnswer, ReplyLengthAnswer, SectionAnswer, UpdateAnswer,
+    Lengths, LengthsError, OpenError, OrderError, RenderError, SectionError, UpdateError,
 };
 
 #[repr(C)]
@@ -51,11 +52,11 @@ pub struct JeqllunaOrder {
     pub mixes: [u32; 31],
 }
 
-pub fn lengths_told(a: LengthsAnswer) -> JeqllunaLengths
+pub fn lengths_told(a: Result<Lengths, LengthsError>) -> JeqllunaLengths
     ensures { lengths_left result ≡ lengths_seen a }
 {
     match a {
-        LengthsAnswer::Lengths(at) => JeqllunaLengths {
+        Ok(at) => JeqllunaLengths {
             number: 0,
             words: at.words,
             longs: at.longs,
@@ -63,16 +64,8 @@ pub fn lengths_told(a: LengthsAnswer) -> JeqllunaLengths
             contexts: at.contexts,
             history: at.history,
         },
-        LengthsAnswer::Samples => JeqllunaLengths {
-            number: 1,
-            words: 0,
-            longs: 0,
-            floats: 0,
-            contexts: 0,
-            history: 0,
-        },
-        LengthsAnswer::Counts => JeqllunaLengths {
-            number: 2,
+        Err(e) => JeqllunaLengths {
+            number: e.number(),
             words: 0,
             longs: 0,
             floats: 0,
@@ -82,86 +75,82 @@ pub fn lengths_told(a: LengthsAnswer) -> JeqllunaLengths
     }
 }
 
-pub fn reply_length_told(a: ReplyLengthAnswer) -> JeqllunaLength
+pub fn reply_length_told(a: Result<usize, LengthsError>) -> JeqllunaLength
     ensures { length_in result ≡ reply_length_seen a }
 {
     match a {
-        ReplyLengthAnswer::Length(size) => JeqllunaLength { number: 0, size },
-        ReplyLengthAnswer::Samples => JeqllunaLength { number: 1, size: 0 },
-        ReplyLengthAnswer::Counts => JeqllunaLength { number: 2, size: 0 },
+        Ok(size) => JeqllunaLength { number: 0, size },
+        Err(e) => JeqllunaLength {
+            number: e.number(),
+            size: 0,
+        },
     }
 }
 
-pub fn update_told(a: UpdateAnswer) -> JeqllunaUpdate
+pub fn open_told(a: Result<(), OpenError>) -> u32
+    ensures { result ≡ open_number a }
+{
+    match a {
+        Ok(()) => 0,
+        Err(e) => e.number(),
+    }
+}
+
+pub fn update_told(a: Result<usize, UpdateError>) -> JeqllunaUpdate
     ensures { result ≡ update_told a }
 {
     match a {
-        UpdateAnswer::Updated(size) => JeqllunaUpdate { number: 0, size },
-        UpdateAnswer::NotWhole => JeqllunaUpdate { number: 4, size: 0 },
-        UpdateAnswer::ShortReply => JeqllunaUpdate { number: 6, size: 0 },
+        Ok(size) => JeqllunaUpdate { number: 0, size },
+        Err(e) => JeqllunaUpdate {
+            number: e.number(),
+            size: 0,
+        },
     }
 }
 
-pub fn render_told(a: RenderAnswer) -> JeqllunaRender
+pub fn render_told(a: Result<u32, RenderError>) -> JeqllunaRender
     ensures { result ≡ render_told a }
 {
     match a {
-        RenderAnswer::Rendered(rounds) => JeqllunaRender { number: 0, rounds },
-        RenderAnswer::NotWhole => JeqllunaRender {
-            number: 4,
-            rounds: 0,
-        },
-        RenderAnswer::Ranges => JeqllunaRender {
-            number: 13,
-            rounds: 0,
-        },
-        RenderAnswer::FarMemory => JeqllunaRender {
-            number: 5,
-            rounds: 0,
-        },
-        RenderAnswer::ShortFrames => JeqllunaRender {
-            number: 7,
+        Ok(rounds) => JeqllunaRender { number: 0, rounds },
+        Err(e) => JeqllunaRender {
+            number: e.number(),
             rounds: 0,
         },
     }
 }
 
-pub fn section_told(a: SectionAnswer) -> JeqllunaRender
+pub fn section_told(a: Result<u32, SectionError>) -> JeqllunaRender
     ensures { result ≡ section_told a }
 {
     match a {
-        SectionAnswer::Rendered(rounds) => JeqllunaRender { number: 0, rounds },
-        SectionAnswer::NotWhole => JeqllunaRender {
-            number: 4,
-            rounds: 0,
+        Ok(all) => JeqllunaRender {
+            number: 0,
+            rounds: all,
         },
-        SectionAnswer::Ranges => JeqllunaRender {
-            number: 13,
-            rounds: 0,
-        },
-        SectionAnswer::FarMemory => JeqllunaRender {
-            number: 5,
-            rounds: 0,
-        },
-        SectionAnswer::Count => JeqllunaRender {
-            number: 14,
-            rounds: 0,
-        },
-        SectionAnswer::ShortFrames => JeqllunaRender {
-            number: 7,
+        Err(e) => JeqllunaRender {
+            number: e.number(),
             rounds: 0,
         },
     }
 }
 
-pub fn order_told(a: OrderAnswer) -> JeqllunaOrder
+pub fn order_told(a: Result<MixOrder, OrderError>) -> JeqllunaOrder
     ensures { order_in result ≡ order_seen a }
 {
-    let order = a.order;
-    let mixes = order.mixes;
-    JeqllunaOrder {
-        number: a.number,
-        count: order.count,
-        mixes,
+    match a {
+        Ok(order) => {
+            let mixes = order.mixes;
+            JeqllunaOrder {
+                number: 0,
+                count: order.count,
+                mixes,
+            }
+        }
+        Err(e) => JeqllunaOrder {
+            number: e.number(),
+            count: 0,
+            mixes: [0; 31],
+        },
     }
 }

@@ -3,7 +3,7 @@ ghost use Rattle.std.specs.Prelude.{◌≡◌, pos, get_or};
 ghost use Rattle.adpcm.specs.Answer.{outcome_of};
 ghost use Rattle.cabi.specs.Decode.{context_in, sixteen_of, decode_left, decoded, decode_told};
 
-use adpcm::{AdpcmAnswer, AdpcmContext, Sample};
+use adpcm::{AdpcmContext, AdpcmError, Decoded, Sample};
 
 // The last header and the last two samples, the later first.
 #[repr(C)]
@@ -59,11 +59,9 @@ fn coefficient_at(coefficients: &[i16], k: usize) -> i16
 pub fn sixteen(coefficients: &[i16]) -> [i16; 16]
     ensures { result ≡ sixteen_of coefficients.now }
 {
-    let mut c = [0i16; 16];
-    let mut k: usize = 0;
-    while k < 16 {
+    let mut c = [0; 16];
+    for k in 0..16 {
         c[k] = coefficient_at(coefficients, k);
-        k += 1;
     }
     c
 }
@@ -83,11 +81,11 @@ fn refused(number: u32) -> JeqllunaDecoded
     }
 }
 
-fn decode_told(a: AdpcmAnswer) -> JeqllunaDecoded
+fn decode_told(a: Result<Decoded, AdpcmError>) -> JeqllunaDecoded
     ensures { result ≡ decode_told a }
 {
     match a {
-        AdpcmAnswer::Done(d) => {
+        Ok(d) => {
             let context = JeqllunaContext {
                 pred_scale: d.context.pred_scale,
                 history0: d.context.history0,
@@ -99,8 +97,7 @@ fn decode_told(a: AdpcmAnswer) -> JeqllunaDecoded
                 context,
             }
         }
-        AdpcmAnswer::FarStart => refused(8),
-        AdpcmAnswer::ShortOutput => refused(9),
+        Err(e) => refused(e.number()),
     }
 }
 

@@ -1,10 +1,10 @@
 // The calls for DSP files.
 ghost use Rattle.std.specs.Prelude.{◌≡◌};
-ghost use Rattle.dsp_file.specs.File.{read_number, read_call, write_call};
+ghost use Rattle.dsp_file.specs.File.{read_call, write_call};
 ghost use Rattle.cabi.specs.Dsp.{header_in, placed, read_in, write_in, write_told};
 
 use crate::decode::{JeqllunaContext, context_in, context_told};
-use dsp_file::{DspAnswer, DspWritten};
+use dsp_file::DspError;
 use dsp_header::{DspHeader, HEADER_BYTES};
 
 // The values of a DSP file's header.
@@ -93,55 +93,35 @@ fn header_in(h: JeqllunaDsp) -> DspHeader
     }
 }
 
-// The number of an answer, 0 for success.
-fn read_number(a: DspAnswer) -> u32
-    ensures { result ≡ read_number a }
-{
-    match a {
-        DspAnswer::Read => 0,
-        DspAnswer::Header => 11,
-        DspAnswer::Short => 12,
-    }
-}
-
 // The header of a DSP file, where its data begins and how long that is.
 #[unsafe(no_mangle)]
 pub extern "C" fn jeqlluna_read_dsp(file: &[u8]) -> JeqllunaDspRead
     ensures { read_in result ≡ placed (read_call file.now) file.now }
 {
-    let read = dsp_file::read_dsp(file);
-    let answer = read.answer;
-    let number = read_number(answer);
-    let values = read.header;
-    let header = header_told(values);
-    if number == 0 {
-        return JeqllunaDspRead {
-            number,
-            header,
+    match dsp_file::read_dsp(file) {
+        Ok(header) => JeqllunaDspRead {
+            number: 0,
+            header: header_told(header),
             data: HEADER_BYTES,
             data_len: dsp_file::dsp_data(file).len(),
-        };
-    }
-    JeqllunaDspRead {
-        number,
-        header,
-        data: 0,
-        data_len: 0,
+        },
+        Err(e) => JeqllunaDspRead {
+            number: e.number(),
+            header: header_told(DspHeader::default()),
+            data: 0,
+            data_len: 0,
+        },
     }
 }
 
 // An answer in numbers.
-fn write_told(a: DspWritten) -> JeqllunaDspWritten
+fn write_told(a: Result<usize, DspError>) -> JeqllunaDspWritten
     ensures { result ≡ write_told a }
 {
     match a {
-        DspWritten::Written(size) => JeqllunaDspWritten { number: 0, size },
-        DspWritten::Header => JeqllunaDspWritten {
-            number: 11,
-            size: 0,
-        },
-        DspWritten::Short => JeqllunaDspWritten {
-            number: 12,
+        Ok(size) => JeqllunaDspWritten { number: 0, size },
+        Err(e) => JeqllunaDspWritten {
+            number: e.number(),
             size: 0,
         },
     }

@@ -5,7 +5,7 @@ ghost use Rattle.cabi.specs.Decode.{context_in, sixteen_of};
 ghost use Rattle.cabi.specs.Encode.{encode_left, encode_told};
 
 use crate::decode::{JeqllunaContext, context_in, sixteen};
-use encoder::EncodeAnswer;
+use encoder::{EncodeError, Encoding};
 
 #[repr(C)]
 #[derive(Clone, Copy)]
@@ -20,11 +20,11 @@ pub struct JeqllunaEncoded {
 }
 
 // An answer in numbers.
-fn encode_told(a: EncodeAnswer) -> JeqllunaEncoded
+fn encode_told(a: Result<(usize, Encoding), EncodeError>) -> JeqllunaEncoded
     ensures { result ≡ encode_told a }
 {
     match a {
-        EncodeAnswer::Done(size, e) => {
+        Ok((size, e)) => {
             let context = JeqllunaContext {
                 pred_scale: e.context.pred_scale,
                 history0: e.context.history0,
@@ -37,14 +37,14 @@ fn encode_told(a: EncodeAnswer) -> JeqllunaEncoded
                 error: e.error,
             }
         }
-        EncodeAnswer::ShortOutput => {
+        Err(e) => {
             let context = JeqllunaContext {
                 pred_scale: 0,
                 history0: 0,
                 history1: 0,
             };
             JeqllunaEncoded {
-                number: 15,
+                number: e.number(),
                 size: 0,
                 context,
                 error: 0,

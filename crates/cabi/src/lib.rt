@@ -54,15 +54,14 @@ pub extern "C" fn jeqlluna_open(
     ensures { open_left result (state_of words.new longs.new floats.new contexts.new history.new)
         ≡ open_call (parse_of parameters.now) (state_of words.old longs.old floats.old contexts.old history.old) }
 {
-    let answer = renderer::open(
+    answers::open_told(renderer::open(
         Params::parse(parameters),
         words,
         longs,
         floats,
         contexts,
         history,
-    );
-    answer.number()
+    ))
 }
 
 // An update; the reply goes to the front of its slice.

@@ -4,7 +4,7 @@ ghost use Rattle.params.specs.Params.{parse_of};
 ghost use Rattle.merging.specs.Answer.{merge_call};
 ghost use Rattle.cabi.specs.Merge.{merge_in, merge_told};
 
-use merging::MergeAnswer;
+use merging::MergeError;
 use params::Params;
 
 #[repr(C)]
@@ -16,22 +16,13 @@ pub struct JeqllunaMerged {
 }
 
 // An answer in numbers.
-fn merge_told(a: MergeAnswer) -> JeqllunaMerged
+fn merge_told(a: Result<usize, MergeError>) -> JeqllunaMerged
     ensures { result ≡ merge_told a }
 {
     match a {
-        MergeAnswer::Merged(size) => JeqllunaMerged { number: 0, size },
-        MergeAnswer::Counts => JeqllunaMerged { number: 2, size: 0 },
-        MergeAnswer::Voices => JeqllunaMerged {
-            number: 16,
-            size: 0,
-        },
-        MergeAnswer::Channels => JeqllunaMerged {
-            number: 17,
-            size: 0,
-        },
-        MergeAnswer::Output => JeqllunaMerged {
-            number: 18,
+        Ok(size) => JeqllunaMerged { number: 0, size },
+        Err(e) => JeqllunaMerged {
+            number: e.number(),
             size: 0,
         },
     }

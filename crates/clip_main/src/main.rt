@@ -2,7 +2,7 @@
 // The clip: 16 coefficients of 16 bits, the context's three numbers of 16 bits, and frames of 8 bytes up to the end.
 #![tactic(auto)]
 
-use adpcm::{AdpcmAnswer, AdpcmContext, Sample};
+use adpcm::{AdpcmContext, Sample};
 use std::io;
 
 const HEADER: usize = 38;
@@ -25,8 +25,7 @@ fn main(rt: HostRuntime) -> io::Result<()> {
         &mut out,
     );
     match answer {
-        AdpcmAnswer::Done(d) => sample_lines::print_samples(&rt, &out, d.done),
-        AdpcmAnswer::FarStart => Ok(()),
-        AdpcmAnswer::ShortOutput => Ok(()),
+        Ok(d) => sample_lines::print_samples(&rt, &out, d.done),
+        Err(_) => Ok(()),
     }
 }

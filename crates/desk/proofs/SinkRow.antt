@@ -2,7 +2,7 @@
 use mathlib.Core.Path.{◌≡◌, sym, ◌∙◌}
 use mathlib.Core.Bool.{true, false}
 use mathlib.Core.List.{List, [], ◌∷◌}
-use Prim.Native.Nat.{ℕ, ◌+◌, ◌*◌, ◌≤◌}
+use Prim.Native.Nat.{ℕ, ◌+◌, ◌*◌, ◌≤◌, min}
 use borrow.Author.Tests.{eq-eqb, ne_eqb}
 use lib.ListN.{length}
 use lib.Ieee.{Float}
@@ -25,6 +25,15 @@ module _ (p : List ℕ) (k : ℕ) (w : List ℕ) {w' : List ℕ} (f : List Float
       rw e (λ i. sink_rows
       ((ew ∙ sym (put_front 8 (k * 10) w (word_of (flag_at p 1) ∷ 0 ∷ []) wide)) i)
       ((ef ∙ sym (put_part 4 (k * 4) f long)) i))
+
+-- the inputs, stored one by one between a device's other words
+pub device_made : (p : List ℕ) {used count given : ℕ} {row : List ℕ} → used ≡ word_of (flag_at p 1) → count ≡ min (field_at 4 p 0x120) 6
+    → given ≡ word_of (flag_at p 0x12b)
+    → row ≡ put (used ∷ 1 ∷ count ∷ 0 ∷ 0 ∷ 0 ∷ 0 ∷ 0 ∷ 0 ∷ given ∷ []) 3 (table 6 (λ (k : ℕ). field_at 1 p (0x124 + k))) → row ≡ device_row p
+unfolding device_row put table
+device_made p eu ec eg e =
+    let f : ℕ → ℕ = λ k. field_at 1 p (0x124 + k) in
+    e ∙ (λ i. eu i ∷ 1 ∷ ec i ∷ f 0 ∷ f 1 ∷ f 2 ∷ f 3 ∷ f 4 ∷ f 5 ∷ eg i ∷ [])
 
 pub is_device_lem : (p : List ℕ) {b : ℕ} → b ≡ field_at 1 p 0 → b ≡ 1 → is_device p ≡ true
 unfolding is_device

@@ -17,10 +17,7 @@ pub fn update_channel_resources(d: &[u8], n: usize, floats: &mut [f32])
     requires { (length floats.old ≡ n * 48) × (n ≤ 64) }
     ensures { floats.new ≡ channels_of d.now n floats.old }
 {
-    let count = fields::least(n, d.len() / 0x70);
-    let mut k = 0;
-    while k < count {
+    for k in 0..n.min(d.len() / 0x70) {
         channel_record(d, k, floats);
-        k += 1;
     }
 }

@@ -7,5 +7,5 @@ mod records;
 mod sinks;
 
 pub use channels::update_channel_resources;
-pub use records::{at_most, put_floats};
+pub use records::put_floats;
 pub use sinks::update_sinks;

@@ -24,14 +24,12 @@ fn mix_base(dirty: bool) -> usize
 fn mixes_read(d: &[u8], dirty: bool) -> usize
     ensures { result ≡ mixes_read dirty d.now }
 {
+    let whole = d.len().saturating_sub(mix_base(dirty)) / 0x930;
     if dirty {
-        if d.len() < 0x20 {
-            return 0;
-        }
-        let count = fields::u32_at(d, 4) as usize;
-        return fields::least(count, (d.len() - 0x20) / 0x930);
+        (fields::u32_at(d, 4) as usize).min(whole)
+    } else {
+        whole
     }
-    d.len() / 0x930
 }
 
 // The mix that record i is for.
@@ -39,9 +37,10 @@ fn mix_id(p: &[u8], dirty: bool, i: usize) -> usize
     ensures { result ≡ mix_id dirty p.now i }
 {
     if dirty {
-        return fields::positive(fields::u32_at(p, 0x10)) as usize;
+        fields::positive(fields::u32_at(p, 0x10)) as usize
+    } else {
+        i
     }
-    i
 }
 
 // The words of a mix in use, but for its offset.
@@ -49,11 +48,10 @@ fn put_words(p: &[u8], words: &mut [u32], at: usize)
     requires { at + 4 ≤ length words.old }
     ensures { words.new ≡ put words.old at (mix_head p.now) }
 {
-    let count = desk::at_most(p, 0x08, 24);
+    let count = fields::u32_at(p, 0x08).min(24);
     let destination = fields::u32_at(p, 0x924);
     let splitter = fields::u32_at(p, 0x928);
-    let row = [1, count, destination, splitter];
-    rows::copy_in_u32(words, at, &row);
+    rows::copy_in(words, at, &[1, count, destination, splitter]);
 }
 
 // The floats of a mix in use.
@@ -74,9 +72,9 @@ fn put_mix(p: &[u8], id: usize, words: &mut [u32], floats: &mut [f32])
     if fields::flag_at(p, 0x0c) {
         put_words(p, words, at);
         put_volumes(p, floats, id * 577);
-        return;
+    } else {
+        words[at] = 0;
     }
-    words[at] = 0;
 }
 
 // Record i: nothing where there is no such mix.
@@ -97,11 +95,8 @@ fn mix_records(d: &[u8], dirty: bool, n: usize, words: &mut [u32], floats: &mut 
     requires { MixesSized n words.old floats.old }
     ensures { mix_rows words.new floats.new ≡ mix_records dirty d.now n (mix_rows words.old floats.old) }
 {
-    let count = mixes_read(d, dirty);
-    let mut i = 0;
-    while i < count {
+    for i in 0..mixes_read(d, dirty) {
         mix_record(d, dirty, i, n, words, floats);
-        i += 1;
     }
 }
 

@@ -9,10 +9,8 @@ pub fn mix_offsets(n: usize, words: &mut [u32])
     ensures { words.new ≡ offsets_of n words.old }
 {
     let mut offset: u32 = 0;
-    let mut k = 0;
-    while k < n {
+    for k in 0..n {
         words[k * 5 + 4] = offset;
         offset += words[k * 5 + 1];
-        k += 1;
     }
 }

@@ -3,10 +3,19 @@ use Rattle.std.specs.Prelude.{◌≡◌, List, ℕ, Float, length}
 use Rattle.params.specs.declared.params.Params.{Params}
 use Rattle.params.specs.Sizes.{Allowed}
 use Rattle.state.specs.State.{mixes_of, words_of, floats_of, mix_words_in, mix_floats_in, sink_words_in, sink_floats_in, list_words_in, destination_floats_in}
+use Rattle.desk_rows.specs.declared.Desk.{Desk}
 use Rattle.desk_rows.specs.DeskRows.{Mixes, Lists}
 use Rattle.desk_order.specs.DeskOrder.{mix_order}
 use Rattle.mixing.specs.Mixing.{mixed_down}
 use Rattle.frames.specs.Frames.{frames_of}
+
+-- the desk has the rows of mixes, splitters and destinations that stand in the words
+pub record DeskOf (p : Params) (words : List ℕ) (desk : Desk) : Type 0 where
+  pub mixes : desk.mixes.n ≡ mixes_of p
+  pub mix_words : desk.mixes.words.now ≡ mix_words_in p words
+  pub splitters : desk.lists.ns ≡ p.splitters
+  pub destinations : desk.lists.nd ≡ p.splitter_destinations
+  pub list_words : desk.lists.words.now ≡ list_words_in p words
 
 -- the mix buffers after `render_mixes`
 unfoldable pub mixed_by : Params → List ℕ → List Float → List Float → List Float

@@ -6,6 +6,7 @@ use Rattle.rows.specs.Lent.{part_between}
 use Rattle.params.specs.declared.params.Params.{Params}
 use Rattle.state.specs.declared.Places.{Places}
 use Rattle.state.specs.State.{At, mixes_of, mix_words, sink_words, list_words, mix_floats, sink_floats, destination_floats, mix_words_in, mix_floats_in, sink_words_in, sink_floats_in, list_words_in, destination_floats_in}
+use Rattle.desk_rows.specs.declared.Desk.{Desk}
 use Rattle.desk_rows.specs.DeskRows.{Mixes, Lists}
 use Rattle.desk_order.specs.declared.listed.MixOrder.{MixOrder}
 use Rattle.desk_order.specs.DeskOrder.{mix_order}
@@ -13,15 +14,15 @@ use Rattle.desk_order.specs.Listed.{listed_of}
 use Rattle.mixing.specs.Mixing.{mixed_down, run_mixes, final_volume}
 use Rattle.mixing.specs.Laws.{length_mixed_down}
 use Rattle.frames.specs.Frames.{Sinks, frames_of}
-use Rattle.desk_render.specs.DeskRender.{Mixable, mixed_by, order_by, frames_by}
+use Rattle.desk_render.specs.DeskRender.{DeskOf, Mixable, mixed_by, order_by, frames_by}
 
 -- ---- the words of mixes, splitters and destinations
 
 module _ {p : Params} {at : Places} (e : At p at) (words : List ℕ) where
-  mixes_is : take (at.sink_words - at.mix_words) (drop at.mix_words words) ≡ mix_words_in p words
+  pub mixes_is : take (at.sink_words - at.mix_words) (drop at.mix_words words) ≡ mix_words_in p words
   mixes_is = part_between words (mix_words p) (mixes_of p * 5) e.mix_words_lem e.sink_words_lem
 
-  lists_is : take (at.words - at.list_words) (drop at.list_words words) ≡ list_words_in p words
+  pub lists_is : take (at.words - at.list_words) (drop at.list_words words) ≡ list_words_in p words
   lists_is = part_between words (list_words p) (p.splitters * 129 + p.splitter_destinations * 2) e.list_words_lem e.words
 
   pub mixes_lent_lem : Mixes (mixes_of p) (mix_words_in p words) → Mixes at.mixes (take (at.sink_words - at.mix_words) (drop at.mix_words words))
@@ -31,12 +32,12 @@ module _ {p : Params} {at : Places} (e : At p at) (words : List ℕ) where
       → Lists p.splitters p.splitter_destinations (take (at.words - at.list_words) (drop at.list_words words))
   lists_lent_lem h = rw lists_is h
 
-  pub ordered : {r : MixOrder}
-      → r ≡ listed_of (mix_order at.mixes p.splitters p.splitter_destinations (take (at.sink_words - at.mix_words) (drop at.mix_words words))
-      (take (at.words - at.list_words) (drop at.list_words words)))
-      → r ≡ listed_of (order_by p words)
-  unfolding order_by
-  ordered q = q ∙ (λ i. listed_of (mix_order (e.mixes i) p.splitters p.splitter_destinations (mixes_is i) (lists_is i)))
+-- the order of a desk
+pub ordered : {p : Params} {words : List ℕ} {desk : Desk} → DeskOf p words desk → {r : MixOrder}
+    → r ≡ listed_of (mix_order desk.mixes.n desk.lists.ns desk.lists.nd desk.mixes.words.now desk.lists.words.now)
+    → r ≡ listed_of (order_by p words)
+unfolding order_by
+ordered d q = q ∙ (λ i. listed_of (mix_order (d.mixes i) (d.splitters i) (d.destinations i) (d.mix_words i) (d.list_words i)))
 
 module _ {p : Params} {at : Places} (e : At p at) {words : List ℕ} {floats : List Float} (h : Mixable p words floats) where
   volumes_is : take (at.sink_floats - at.mix_floats) (drop at.mix_floats floats) ≡ mix_floats_in p floats
@@ -59,16 +60,15 @@ module _ {p : Params} {at : Places} (e : At p at) {words : List ℕ} {floats : L
   pub destinations_long : length (take (at.floats - at.destination_floats) (drop at.destination_floats floats)) ≡ p.splitter_destinations * 48
   destinations_long = rw destinations_is (length_part (p.splitter_destinations * 48) (destination_floats p) floats (omega (arith, h.floats_long)))
 
-  pub mixed : (buffers : List Float) {b : List Float}
-      → b ≡ mixed_down p.sample_count at.mixes (take (at.sink_words - at.mix_words) (drop at.mix_words words))
-      (take (at.sink_floats - at.mix_floats) (drop at.mix_floats floats)) p.splitters p.splitter_destinations (take (at.words - at.list_words) (drop at.list_words words))
-      (take (at.floats - at.destination_floats) (drop at.destination_floats floats)) buffers
+  pub mixed : {desk : Desk} → DeskOf p words desk → {n : ℕ} → n ≡ p.sample_count → (buffers : List Float) {b : List Float}
+      → b ≡ mixed_down n desk.mixes.n desk.mixes.words.now (take (at.sink_floats - at.mix_floats) (drop at.mix_floats floats)) desk.lists.ns desk.lists.nd
+      desk.lists.words.now (take (at.floats - at.destination_floats) (drop at.destination_floats floats)) buffers
       → b ≡ mixed_by p words floats buffers
   unfolding mixed_by
-  mixed buffers q =
+  mixed d s buffers q =
       q
       ∙ (λ i.
-      mixed_down p.sample_count (e.mixes i) (mixes_is e words i) (volumes_is i) p.splitters p.splitter_destinations (lists_is e words i) (destinations_is i) buffers)
+      mixed_down (s i) (d.mixes i) (d.mix_words i) (volumes_is i) (d.splitters i) (d.destinations i) (d.list_words i) (destinations_is i) buffers)
 
   -- ---- the frames
 

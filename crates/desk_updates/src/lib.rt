@@ -1,5 +1,5 @@
-// The updates of channel resources, splitters, mixes and sinks, each on the rows of its kind, lent from where they begin in the state's slices:
-// at a in the words, at c in the floats.
+// The updates of channel resources, splitters, mixes and sinks, each on the rows of its kind, lent from where they begin in the state's
+// slices: at a in the words, at c in the floats.
 #![tactic(auto)]
 
 ghost use Rattle.std.specs.Prelude.{◌≡◌, ◌+◌, ◌*◌, ◌^◌, ◌≤◌, ◌<◌, length};
@@ -46,8 +46,8 @@ pub fn mixes(
     floats: &mut [f32],
     c: usize,
 )
-    requires fact_1 { (a + n * 5 ≤ length words.old) × (c + n * 577 ≤ length floats.old) }
-    requires fact_2 { MixesSized n (part (n * 5) a words.old) (part (n * 577) c floats.old) }
+    requires inside { (a + n * 5 ≤ length words.old) × (c + n * 577 ≤ length floats.old) }
+    requires sized { MixesSized n (part (n * 5) a words.old) (part (n * 577) c floats.old) }
     ensures words_after { words.new ≡ put words.old a (mix_rows_at revision d.now n a words.old c floats.old).words }
     ensures floats_after { floats.new ≡ put floats.old c (mix_rows_at revision d.now n a words.old c floats.old).floats }
 {

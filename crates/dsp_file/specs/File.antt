@@ -1,5 +1,5 @@
 -- What reading and writing a DSP file answer. Definitions only.
-use Rattle.std.specs.Prelude.{ℕ, ◌+◌, Bool, true, false, ◌&&◌, leb, eqb, pos, length}
+use Rattle.std.specs.Prelude.{ℕ, ◌+◌, Bool, true, false, ◌&&◌, leb, eqb, pos, length, Result, Ok, Err}
 use mathlib.Core.List.{List, ◌++◌, replicate}
 use Rattle.rows.specs.Rows.{put}
 use Rattle.fields.specs.Fields.{rest_of}
@@ -7,13 +7,15 @@ use Rattle.adpcm.specs.Places.{size_of}
 use Rattle.adpcm.specs.declared.context.AdpcmContext.{AdpcmContext}
 use Rattle.dsp_header.specs.declared.DspHeader.{DspHeader}
 use Rattle.dsp_header.specs.Header.{header_size, header_of, padding_of, header_bytes}
-use Rattle.dsp_file.specs.declared.DspAnswer.{DspAnswer}
-use Rattle.dsp_file.specs.declared.DspAnswer.TheVariants as Answer
-use Rattle.dsp_file.specs.declared.DspRead.{DspRead}
-use Rattle.dsp_file.specs.declared.DspWritten.{DspWritten}
-use Rattle.dsp_file.specs.declared.DspWritten.TheVariants as Written
+use Rattle.dsp_file.specs.declared.DspError.{DspError}
+use Rattle.dsp_file.specs.declared.DspError.TheVariants.{Header, Short}
 
 -- ---- the questions
+
+-- the number of the one that refuses
+abbrev pub number_of : DspError → ℕ
+number_of Header = 11
+number_of Short = 12
 
 -- format and gain are 0
 abbrev pub plain_values : ℕ → ℕ → Bool
@@ -60,9 +62,6 @@ no_header = record {
   loop_context = no_context;
 }
 
-abbrev pub refused_by : DspAnswer → DspRead
-refused_by a = record { answer = a; header = no_header }
-
 -- what a reading answers
 pub record ReadOutcome : Type 0 where
   pub number : ℕ
@@ -80,14 +79,18 @@ read_by true true file = read_left 0 (header_of file)
 unfoldable pub read_call : List ℕ → ReadOutcome
 read_call file = read_by (plain_file file) (holds_samples (header_of file).samples (length (data_of file))) file
 
--- the number of an answer
-abbrev pub read_number : DspAnswer → ℕ
-read_number Answer.Read = 0
-read_number Answer.Header = 11
-read_number Answer.Short = 12
+-- a refusal, with a header of zeros
+abbrev pub refused_by : DspError → ReadOutcome
+refused_by e = read_left (number_of e) no_header
 
-abbrev pub read_seen : DspRead → ReadOutcome
-read_seen r = read_left (read_number r.answer) r.header
+-- the number of an answer
+abbrev pub read_number : Result DspHeader DspError → ℕ
+read_number (Ok h) = 0
+read_number (Err e) = number_of e
+
+abbrev pub read_seen : Result DspHeader DspError → ReadOutcome
+read_seen (Ok h) = read_left 0 h
+read_seen (Err e) = refused_by e
 
 -- ---- writing
 
@@ -112,15 +115,13 @@ unfoldable pub write_call : DspHeader → List ℕ → List ℕ → WriteOutcome
 write_call h d out = write_by (plain_header h) (holds_samples h.samples (length d) && has_room (length d) (length out)) h d out
 
 -- an answer's number and size
-abbrev pub write_number : DspWritten → ℕ
-write_number (Written.Written n) = 0
-write_number Written.Header = 11
-write_number Written.Short = 12
+abbrev pub write_number : Result ℕ DspError → ℕ
+write_number (Ok n) = 0
+write_number (Err e) = number_of e
 
-abbrev pub write_size : DspWritten → ℕ
-write_size (Written.Written n) = n
-write_size Written.Header = 0
-write_size Written.Short = 0
+abbrev pub write_size : Result ℕ DspError → ℕ
+write_size (Ok n) = n
+write_size (Err e) = 0
 
-abbrev pub write_seen : DspWritten → List ℕ → WriteOutcome
+abbrev pub write_seen : Result ℕ DspError → List ℕ → WriteOutcome
 write_seen a out = write_left (write_number a) (write_size a) out

@@ -4,5 +4,4 @@ pub mod Example
 pub mod HeaderAgain
 pub mod Laid
 pub mod Numbers
-pub mod Putting
 pub mod Sizes

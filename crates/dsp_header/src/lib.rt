@@ -15,7 +15,7 @@ pub use write::put_header;
 pub const HEADER_BYTES: usize = 96;
 
 // The values of a header, in the file's sequence. The padding behind them is no value.
-#[derive(Clone, Copy)]
+#[derive(Clone, Copy, Default)]
 pub struct DspHeader {
     pub samples: u32,
     pub nibbles: u32,

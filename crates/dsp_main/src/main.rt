@@ -6,8 +6,7 @@ mod print;
 
 ghost use Rattle.std.specs.Prelude.{◌≡◌, ◌<◌, ◌^◌, length};
 
-use adpcm::{AdpcmAnswer, AdpcmContext, Sample};
-use dsp_file::DspAnswer;
+use adpcm::{AdpcmContext, Sample};
 use dsp_header::DspHeader;
 use print::{print_context, print_field, print_numbers};
 use std::io;
@@ -19,11 +18,6 @@ const MOST: usize = 524288;
 const CHUNK: usize = 3584;
 
 const CHUNK_BYTES: usize = 2048;
-
-// The lesser of two numbers.
-fn least(a: usize, b: usize) -> usize {
-    if a < b { a } else { b }
-}
 
 // The samples of chunk k, of which n are wanted; the context for the next chunk.
 fn print_chunk(
@@ -39,12 +33,11 @@ fn print_chunk(
     let mut out = [0.0f32; CHUNK];
     let frames = fields::rest(data, k * CHUNK_BYTES);
     match adpcm::decode_adpcm_checked(frames, Sample((k * CHUNK) as u64), n, pairs, x, &mut out) {
-        AdpcmAnswer::Done(d) => {
+        Ok(d) => {
             sample_lines::print_samples(rt, &out, d.done)?;
             Ok(d.context)
         }
-        AdpcmAnswer::FarStart => Ok(x),
-        AdpcmAnswer::ShortOutput => Ok(x),
+        Err(_) => Ok(x),
     }
 }
 
@@ -59,44 +52,43 @@ fn print_clip(
     requires { samples < 2 ^ 32 }
 {
     let mut x = first;
-    let mut k: usize = 0;
-    while k < samples / CHUNK + 1 {
-        let n = least(samples - k * CHUNK, CHUNK);
+    for k in 0..samples / CHUNK + 1 {
+        let n = (samples - k * CHUNK).min(CHUNK);
         x = print_chunk(rt, data, k, n, pairs, x)?;
-        k += 1;
     }
     Ok(())
 }
 
 // The values of a header, a line each.
 fn print_header(rt: &impl Print, h: DspHeader) -> io::Result<()> {
-    print_field(rt, b"samples", h.samples as u64)?;
-    print_field(rt, b"nibbles", h.nibbles as u64)?;
-    print_field(rt, b"rate", h.rate as u64)?;
-    print_field(rt, b"loop_flag", h.loop_flag as u64)?;
-    print_field(rt, b"format", h.format as u64)?;
-    print_field(rt, b"loop_start", h.loop_start as u64)?;
-    print_field(rt, b"loop_end", h.loop_end as u64)?;
-    print_field(rt, b"address", h.address as u64)?;
-    let coefficients = h.coefficients;
-    print_numbers(rt, b"coefficients", &coefficients)?;
-    print_field(rt, b"gain", h.gain as u64)?;
-    let start = h.start_context;
-    print_context(rt, b"start_context", start)?;
-    let looped = h.loop_context;
-    print_context(rt, b"loop_context", looped)
+    print_field(rt, b"samples", u64::from(h.samples))?;
+    print_field(rt, b"nibbles", u64::from(h.nibbles))?;
+    print_field(rt, b"rate", u64::from(h.rate))?;
+    print_field(rt, b"loop_flag", u64::from(h.loop_flag))?;
+    print_field(rt, b"format", u64::from(h.format))?;
+    print_field(rt, b"loop_start", u64::from(h.loop_start))?;
+    print_field(rt, b"loop_end", u64::from(h.loop_end))?;
+    print_field(rt, b"address", u64::from(h.address))?;
+    print_numbers(rt, b"coefficients", &h.coefficients)?;
+    print_field(rt, b"gain", u64::from(h.gain))?;
+    print_context(rt, b"start_context", h.start_context)?;
+    print_context(rt, b"loop_context", h.loop_context)
 }
 
 // A file that is accepted.
 fn print_file(rt: &impl Print, h: DspHeader, data: &[u8]) -> io::Result<()> {
     print_header(rt, h)?;
-    let held = adpcm::adpcm_size(Sample(h.samples as u64));
+    let held = adpcm::adpcm_size(Sample(u64::from(h.samples)));
     print_field(rt, b"data", data.len() as u64)?;
     print_field(rt, b"holding samples", held.0)?;
     print_field(rt, b"beyond", adpcm::Byte(data.len() as u64).past(held))?;
-    let pairs = h.coefficients;
-    let first = h.start_context;
-    print_clip(rt, data, h.samples as usize, &pairs, first)
+    print_clip(
+        rt,
+        data,
+        h.samples as usize,
+        &h.coefficients,
+        h.start_context,
+    )
 }
 
 // Room for the longest file, and a byte more.
@@ -113,15 +105,9 @@ fn too_long(rt: &impl Print) -> io::Result<()> {
 
 // A file, whatever its bytes.
 fn print_answer(rt: &impl Print, file: &[u8]) -> io::Result<()> {
-    let read = dsp_file::read_dsp(file);
-    let answer = read.answer;
-    match answer {
-        DspAnswer::Read => {
-            let header = read.header;
-            print_file(rt, header, dsp_file::dsp_data(file))
-        }
-        DspAnswer::Header => print_field(rt, b"refused", 11),
-        DspAnswer::Short => print_field(rt, b"refused", 12),
+    match dsp_file::read_dsp(file) {
+        Ok(header) => print_file(rt, header, dsp_file::dsp_data(file)),
+        Err(e) => print_field(rt, b"refused", u64::from(e.number())),
     }
 }
 

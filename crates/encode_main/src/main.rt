@@ -4,8 +4,7 @@
 // At most 4,096 bytes are read.
 #![tactic(auto)]
 
-use adpcm::{AdpcmAnswer, AdpcmContext, Sample};
-use encoder::EncodeAnswer;
+use adpcm::{AdpcmContext, Sample};
 use std::io;
 
 const HEADER: usize = 38;
@@ -15,18 +14,10 @@ const MOST: usize = 2029;
 
 const MOST_BYTES: usize = 1160;
 
-// A sample of 16 bits; 0 past the end.
-fn sample_at(samples: &[u8], at: usize) -> i16 {
-    fields::signed16(fields::u16_at(samples, at))
-}
-
-// The samples that stand in bytes.
+// The samples that stand in bytes; 0 past the end.
 fn take_samples(bytes: &[u8], out: &mut [i16]) {
-    let mut k: usize = 0;
-    while k < out.len() {
-        let at = 2 * k;
-        out[k] = sample_at(bytes, at);
-        k += 1;
+    for (k, x) in out.iter_mut().enumerate() {
+        *x = fields::u16_at(bytes, 2 * k).cast_signed();
     }
 }
 
@@ -37,25 +28,21 @@ fn print_header(rt: &impl Print, header: u8) -> io::Result<()> {
     print!(rt; "predictor {predictor} scale {scale}:")
 }
 
-// Byte k of a number of them, after the header if it is a frame's first; the end of a line after its last.
-fn print_byte(rt: &impl Print, byte: u8, k: usize, last: bool) -> io::Result<()> {
-    if k % 8 == 0 {
-        print_header(rt, byte)?;
+// A frame, up to 8 bytes, after its header in words.
+fn print_frame(rt: &impl Print, frame: &[u8]) -> io::Result<()> {
+    if let Some(header) = frame.first() {
+        print_header(rt, *header)?;
     }
-    print!(rt; " {byte:02x}")?;
-    if k % 8 == 7 || last {
-        rt.write_all(b"\n")?;
+    for &byte in frame {
+        print!(rt; " {byte:02x}")?;
     }
-    Ok(())
+    rt.write_all(b"\n")
 }
 
-// All frames.
+// All frames, a line each.
 fn print_frames(rt: &impl Print, bytes: &[u8]) -> io::Result<()> {
-    let mut k: usize = 0;
-    while k < bytes.len() {
-        let last = k + 1 == bytes.len();
-        print_byte(rt, bytes[k], k, last)?;
-        k += 1;
+    for frame in bytes.chunks(8) {
+        print_frame(rt, frame)?;
     }
     Ok(())
 }
@@ -69,10 +56,8 @@ fn print_decoded(
     ctx: AdpcmContext,
 ) -> io::Result<()> {
     let mut out = [0.0f32; MOST];
-    match adpcm::decode_adpcm_checked(bytes, Sample(0), count, pairs, ctx, &mut out) {
-        AdpcmAnswer::Done(d) => sample_lines::print_samples(rt, &out, d.done)?,
-        AdpcmAnswer::FarStart => {}
-        AdpcmAnswer::ShortOutput => {}
+    if let Ok(d) = adpcm::decode_adpcm_checked(bytes, Sample(0), count, pairs, ctx, &mut out) {
+        sample_lines::print_samples(rt, &out, d.done)?;
     }
     if count % 14 > 0 {
         rt.write_all(b"\n")?;
@@ -89,14 +74,14 @@ fn print_encoded(
 ) -> io::Result<()> {
     let mut out = [0u8; MOST_BYTES];
     match encoder::encode_adpcm(samples, pairs, ctx, &mut out) {
-        EncodeAnswer::Done(size, left) => {
+        Ok((size, left)) => {
             let frames = fields::section(&out, 0, size);
             print_frames(rt, frames)?;
             print_decoded(rt, frames, samples.len(), pairs, ctx)?;
             let error = left.error;
             println!(rt; "error {error}")
         }
-        EncodeAnswer::ShortOutput => Ok(()),
+        Err(_) => Ok(()),
     }
 }
 
@@ -108,10 +93,10 @@ fn print_first(
     pairs: &[i16; 16],
     ctx: AdpcmContext,
 ) -> io::Result<()> {
-    if n <= samples.len() {
-        print_encoded(rt, &samples[0..n], pairs, ctx)?;
+    match samples.get(..n) {
+        Some(first) => print_encoded(rt, first, pairs, ctx),
+        None => Ok(()),
     }
-    Ok(())
 }
 
 // A recording, whatever its bytes.

@@ -11,10 +11,9 @@ use lib.IntN.{ℤ}
 use lib.ListN.{length, get_or, length-append, get_or-append}
 use lib.Seq.{get_or-append-add}
 use Rattle.adpcm.specs.Places.{nibble_of, nibble_at_lem, nibble_parity}
-use Rattle.adpcm.specs.Decode.{half_of, after, headed, value_of, took_of, Run, run_on, run_from}
+use Rattle.adpcm.specs.Decode.{Took, half_of, after, headed, value_of, took_of, Run, run_on, run_from}
 use Rattle.adpcm.specs.declared.context.AdpcmContext.{AdpcmContext}
-use Rattle.adpcm.specs.declared.decode.Took.{Took}
-use Rattle.adpcm.specs.declared.decode.Took.TheVariants.{Short, Got}
+use Rattle.std.specs.Prelude.{Ok, Err}
 use Rattle.nearest.specs.Nearest.{nearest_of}
 use Rattle.trial.proofs.Trial.{length_nibbles}
 use Rattle.trial.specs.Trial.{frame_samples, pair_first, pair_second, nearest_sample, nibbles_of, reconstructed_of}
@@ -85,26 +84,26 @@ module _ (k : List ℤ) (p rest : List ℕ) (f b : ℕ) (vs : List ℕ) (place :
 
   -- nibble j, in the high or the low half of its byte
   value : (j : ℕ) → j < length vs → (y : AdpcmContext) (high : Bool) → eqb (j % 2) 0 ≡ high
-      → value_of s (8 * f + 1 + j / 2) high k y ≡ Got (after (get_or vs j 0) k y)
+      → value_of s (8 * f + 1 + j / 2) high k y ≡ Ok (after (get_or vs j 0) k y)
   unfolding value_of
   value j h y high e =
       by_test (leb (length s) (8 * f + 1 + j / 2)) _ _ (lt-leb (length s) (8 * f + 1 + j / 2) (omega (arith, long, byte_in j h)))
-      ∙ (λ i. Got (after (half_of (sym e i) (byte (j / 2) (byte_in j h) i)) k y))
-      ∙ ap (λ (v : ℕ). Got (after v k y)) (half_is vs j small h)
+      ∙ (λ i. Ok (after (half_of (sym e i) (byte (j / 2) (byte_in j h) i)) k y))
+      ∙ ap (λ (v : ℕ). Ok (after v k y)) (half_is vs j small h)
 
-  took_first : 0 < length vs → (y : AdpcmContext) → took_of s 0 k (14 * f + 0) y ≡ Got (after (get_or vs 0 0) k (headed b y))
+  took_first : 0 < length vs → (y : AdpcmContext) → took_of s 0 k (14 * f + 0) y ≡ Ok (after (get_or vs 0 0) k (headed b y))
   unfolding took_of
   took_first h y =
       let at : nibble_of (14 * f + 0) / 2 - 0 ≡ 8 * f = omega (arith, first_at f) in
       let next : 8 * f + 1 ≡ 8 * f + 1 + 0 / 2 = omega arith in
       by_test (eqb ((14 * f + 0) % 14) 0) _ _ (eq-eqb ((14 * f + 0) % 14) 0 (omega arith))
-      ∙ ap (λ (a : ℕ). cond (leb (length s) a) (Short y) (value_of s (a + 1) true k (headed (get_or s a 0) y))) at
+      ∙ ap (λ (a : ℕ). cond (leb (length s) a) (Err y) (value_of s (a + 1) true k (headed (get_or s a 0) y))) at
       ∙ by_test (leb (length s) (8 * f)) _ _ (lt-leb (length s) (8 * f) (omega (arith, long)))
       ∙ (λ i. value_of s (next i) true k (headed (header i) y))
       ∙ value 0 h (headed b y) true refl
 
   took_later : (j : ℕ) → 0 < j → j < length vs → (y : AdpcmContext)
-      → took_of s 0 k (14 * f + j) y ≡ Got (after (get_or vs j 0) k y)
+      → took_of s 0 k (14 * f + j) y ≡ Ok (after (get_or vs j 0) k y)
   unfolding took_of
   took_later j l h y =
       let at : nibble_of (14 * f + j) / 2 - 0 ≡ 8 * f + 1 + j / 2 = omega (arith, later_at f j l (omega arith)) in
@@ -114,10 +113,10 @@ module _ (k : List ℤ) (p rest : List ℕ) (f b : ℕ) (vs : List ℕ) (place :
 
   -- sample j; from the second on, the context has the frame's header
   took : (j : ℕ) → j < length vs → (y : AdpcmContext) → (0 < j → y.pred_scale ≡ b)
-      → took_of s 0 k (14 * f + j) y ≡ Got (after (get_or vs j 0) k (headed b y))
+      → took_of s 0 k (14 * f + j) y ≡ Ok (after (get_or vs j 0) k (headed b y))
   took zero h y e = took_first h y
   took (suc j) h y e =
-      took_later (suc j) (omega arith) h y ∙ (λ i. Got (after (get_or vs (suc j) 0) k (headed (e (omega arith) i) y)))
+      took_later (suc j) (omega arith) h y ∙ (λ i. Ok (after (get_or vs (suc j) 0) k (headed (e (omega arith) i) y)))
 
   -- the samples ts from sample j of the frame on, where the rest of the nibbles are theirs
   run_part : (ts : List ℤ) (j : ℕ) (y : AdpcmContext) → 0 < length vs → j + length ts ≡ length vs → (0 < j → y.pred_scale ≡ b)
@@ -132,7 +131,7 @@ module _ (k : List ℤ) (p rest : List ℕ) (f b : ℕ) (vs : List ℕ) (place :
       let next = run_part ts (j + 1) z some (omega arith) (λ h. refl)
       (λ i h. (let m : j + 1 + i ≡ j + suc i = omega arith in ap (λ (n : ℕ). get_or vs n 0) m ∙ theirs (suc i) (omega arith))) in
       let m : 14 * f + j + 1 ≡ 14 * f + (j + 1) = omega arith in
-      let got = took j (omega arith) y head ∙ ap (λ (w : ℕ). Got (after w k (headed b y))) own in
+      let got = took j (omega arith) y head ∙ ap (λ (w : ℕ). Ok (after w k (headed b y))) own in
       (λ i. run_on (got i) (run_from s 0 k (length ts) (m i)))
       ∙ (λ i. record { samples = z.history0 ∷ (next i).samples; context = (next i).context })
 

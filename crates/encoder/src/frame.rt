@@ -3,7 +3,7 @@ ghost use Rattle.std.specs.Prelude.{◌≡◌, ◌+◌, ◌*◌, ◌/◌, ◌≤
 ghost use Rattle.trial.specs.Trial.{frame_samples};
 ghost use Rattle.encoder.specs.Frame.{frame_size, Packs, Puts, Frames};
 
-use adpcm::AdpcmContext;
+use adpcm::{AdpcmContext, pair};
 use nearest::choose_nibble;
 use trial::keep_header;
 
@@ -15,58 +15,44 @@ fn pack(high: u8, low: u8) -> u8
     high * 16 + low
 }
 
-// A byte with two nibbles, or with a last one and 0, and the last two samples then, the later first.
-#[derive(Clone, Copy)]
-pub struct NextByte {
-    pub byte: u8,
-    pub h0: i16,
-    pub h1: i16,
-}
-
-// The byte with the nibbles of samples i and i + 1, with the scale s and the pair c, d, after the samples h0 and h1.
-fn next_byte(samples: &[i16], i: usize, s: u16, c: i16, d: i16, h0: i16, h1: i16) -> NextByte
+// The byte with the nibbles of samples i and i + 1, or with a last one and 0, and the last two samples then, the later first; with the
+// scale s and the pair c, d, after the samples h0 and h1.
+fn next_byte(samples: &[i16], i: usize, s: u16, c: i16, d: i16, h0: i16, h1: i16) -> (u8, i16, i16)
     requires { (s < 16) × (i < length samples.now) }
-    ensures { Packs s c d (drop i samples.now) (drop (i + 2) samples.now) h0 h1 result.byte result.h0 result.h1 }
+    ensures { Packs s c d (drop i samples.now) (drop (i + 2) samples.now) h0 h1 result.0 result.1 result.2 }
 {
     let one = choose_nibble(samples[i], s, c, d, h0, h1);
     let y = one.sample;
     if samples.len() <= i + 1 {
-        let byte = pack(one.nibble, 0);
-        return NextByte {
-            byte,
-            h0: y,
-            h1: h0,
-        };
+        return (pack(one.nibble, 0), y, h0);
     }
     let two = choose_nibble(samples[i + 1], s, c, d, y, h0);
-    let z = two.sample;
-    let byte = pack(one.nibble, two.nibble);
-    NextByte { byte, h0: z, h1: y }
+    (pack(one.nibble, two.nibble), two.sample, y)
 }
 
-// The last two samples, the later first.
-#[derive(Clone, Copy)]
-pub struct LastTwo {
-    pub h0: i16,
-    pub h1: i16,
-}
-
-// Writes the nibbles of a frame's samples, with the scale s and the pair c, d, after the samples h0 and h1.
-fn put_nibbles(samples: &[i16], s: u16, c: i16, d: i16, h0: i16, h1: i16, out: &mut [u8]) -> LastTwo
+// Writes the nibbles of a frame's samples, with the scale s and the pair c, d, after the samples h0 and h1: the last two samples then, the
+// later first.
+fn put_nibbles(
+    samples: &[i16],
+    s: u16,
+    c: i16,
+    d: i16,
+    h0: i16,
+    h1: i16,
+    out: &mut [u8],
+) -> (i16, i16)
     requires { (s < 16) × (length samples.now ≤ frame_samples) × (length out.old ≡ (length samples.now + 1) / 2) }
-    ensures { Puts s c d samples.now h0 h1 out.new result.h0 result.h1 }
+    ensures { Puts s c d samples.now h0 h1 out.new result.0 result.1 }
 {
     let mut a = h0;
     let mut b = h1;
-    let mut j = 0usize;
-    while j < out.len() {
-        let next = next_byte(samples, 2 * j, s, c, d, a, b);
-        out[j] = next.byte;
-        a = next.h0;
-        b = next.h1;
-        j += 1;
+    for j in 0..out.len() {
+        let (byte, y, z) = next_byte(samples, 2 * j, s, c, d, a, b);
+        out[j] = byte;
+        a = y;
+        b = z;
     }
-    LastTwo { h0: a, h1: b }
+    (a, b)
 }
 
 // What an encoding leaves: the context, and the sum of squared differences.
@@ -91,16 +77,13 @@ pub fn encode_frame(
     let seed = (ctx.pred_scale % 128) as u8;
     let kept = keep_header(samples, coefficients, h0, h1, seed);
     let header = kept.header;
-    let p = (header / 16 % 8 * 2) as usize;
-    let c = coefficients[p];
-    let d = coefficients[p + 1];
-    let last = put_nibbles(samples, (header % 16) as u16, c, d, h0, h1, &mut out[1..]);
+    let (c, d) = pair(coefficients, u16::from(header));
+    let (y, z) = put_nibbles(samples, u16::from(header % 16), c, d, h0, h1, &mut out[1..]);
     out[0] = header;
-    let pred_scale = header as u16;
     let context = AdpcmContext {
-        pred_scale,
-        history0: last.h0,
-        history1: last.h1,
+        pred_scale: u16::from(header),
+        history0: y,
+        history1: z,
     };
     Encoding {
         context,

@@ -4,5 +4,5 @@
 mod encode;
 mod frame;
 
-pub use encode::{EncodeAnswer, encode_adpcm};
+pub use encode::{EncodeError, encode_adpcm};
 pub use frame::Encoding;

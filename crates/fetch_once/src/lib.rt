@@ -2,6 +2,7 @@
 #![tactic(auto)]
 
 use adpcm::AdpcmContext;
+use memory::SampleMemory;
 use plan::Source;
 use voice::Queue;
 
@@ -16,32 +17,21 @@ pub fn fetch_row(
     c: u32,
     out: &mut [f32],
 ) -> AdpcmContext {
-    if out.len() < 3 {
+    if out.len() < 3 || out.len() > 4100 || q.index > 3 {
         return adpcm;
     }
-    if out.len() > 4100 {
+    if s.channels == 0 || s.channels > 6 || s.channels <= c {
         return adpcm;
     }
-    if q.index > 3 {
-        return adpcm;
-    }
-    if s.channels == 0 {
-        return adpcm;
-    }
-    if s.channels > 6 {
-        return adpcm;
-    }
-    if s.channels <= c {
-        return adpcm;
-    }
-    if !ranges::laid(ranges, memory.len() as u64) {
-        return adpcm;
-    }
-    if !ranges::near(ranges) {
+    if !ranges::laid(ranges, memory.len() as u64) || !ranges::near(ranges) {
         return adpcm;
     }
     let count = (out.len() - 3) as u32;
     let plan = plan::plan_fetch(q, s, ranges, count);
-    let table = sound::coefficients(ranges, memory, s, plan.table);
-    sound::fetch_channel(q, s, ranges, memory, &table, adpcm, history, c, out)
+    let sample_memory = SampleMemory {
+        ranges,
+        bytes: memory,
+    };
+    let table = sound::coefficients(&sample_memory, s, plan.table);
+    sound::fetch_channel(q, s, &sample_memory, &table, adpcm, history, c, out)
 }

@@ -1,4 +1,2 @@
 pub mod Answers
-pub mod Bits
-pub mod Signed
-pub mod Putting
+pub mod Bytes

@@ -11,69 +11,35 @@ ghost use Rattle.floats.specs.Defs.{floor_of, min_of, clamp_of, ratio_of};
 pub fn from_bits(b: u32) -> f32
     ensures { result ≡ Ieee.of_bits binary32 b }
 {
-    if b % 0x8000_0000 > 0x7f80_0000 {
-        0.0 / 0.0
-    } else {
-        f32::from_bits(b)
-    }
+    std::num::f32_from_bits_with_nan(b)
 }
 
 // Rust's `x.to_bits()`: a NaN gives 0x7fc00000.
 pub fn to_bits(x: f32) -> u32
     ensures { result ≡ Ieee.to_bits binary32 x }
 {
-    if x != x { 0x7fc0_0000 } else { f32::to_bits(x) }
+    std::num::f32_to_bits_with_nan(x)
 }
 
 // Rust's `x as usize`: toward zero, the nearest end where x is out of range, and 0 for a NaN.
 pub fn as_usize(x: f32) -> usize
     ensures { result ≡ Ieee.to_unsigned 64 x }
 {
-    if x > -1.0 {
-        if x < 18446744073709551616.0 {
-            return std::num::truncating_f32_to_u64(x) as usize;
-        }
-        return 0xffff_ffff_ffff_ffff;
-    }
-    0
+    std::num::saturating_f32_to_usize(x)
 }
 
-// Rust's `x.floor()`. From 2^24 on every float is whole.
+// Rust's `x.floor()`.
 pub fn floor(x: f32) -> f32
     ensures { result ≡ floor_of x }
 {
-    if x >= 0.0 {
-        if x < 16777216.0 {
-            let r = std::num::nearest_u32_to_f32(std::num::truncating_f32_to_u64(x) as u32);
-            if r == x {
-                return x;
-            }
-            return r;
-        }
-        return x;
-    }
-    if x > -16777216.0 {
-        let n = std::num::truncating_f32_to_u64(-x) as u32;
-        let r = -std::num::nearest_u32_to_f32(n);
-        if r == x {
-            return x;
-        }
-        return -std::num::nearest_u32_to_f32(n + 1);
-    }
-    x
+    x.floor()
 }
 
 // Rust's `a.min(b)`: of a NaN and another, the other; of two equal zeros, a.
 pub fn min(a: f32, b: f32) -> f32
     ensures { result ≡ min_of a b }
 {
-    if a != a {
-        return b;
-    }
-    if b < a {
-        return b;
-    }
-    a
+    if a.is_nan() || b < a { b } else { a }
 }
 
 // Rust's `x.clamp(low, high)`: a NaN stays. Where low is above high, Rust panics and this does not.
@@ -81,19 +47,19 @@ pub fn clamp(x: f32, low: f32, high: f32) -> f32
     ensures { result ≡ clamp_of low high x }
 {
     if x < low {
-        return low;
+        low
+    } else if x > high {
+        high
+    } else {
+        x
     }
-    if x > high {
-        return high;
-    }
-    x
 }
 
 // Rust's `x.is_finite()`.
 pub fn is_finite(x: f32) -> bool
     ensures { result ≡ finite x }
 {
-    x - x == 0.0
+    x.is_finite()
 }
 
 // A voice's ratio: Rust's `if x.is_finite() { x.clamp(0.0, 16.0) } else { 0.0 }`.
@@ -101,7 +67,8 @@ pub fn clamp_ratio(x: f32) -> f32
     ensures { result ≡ ratio_of x }
 {
     if is_finite(x) {
-        return clamp(x, 0.0, 16.0);
+        clamp(x, 0.0, 16.0)
+    } else {
+        0.0
     }
-    0.0
 }

@@ -1,28 +1,28 @@
 -- The frames of a render (mixer.rs `write_sink`): those of the first used device sink, or zeros. Definitions only.
 -- A sink has 10 words (used, device, how many inputs, six inputs, downmix given) and 4 floats (the given factors).
-use Rattle.std.specs.Prelude.{◌≡◌, Bool, true, false, cond, not, ◌&&◌, List, ℕ, zero, suc, ◌+◌, ◌*◌, ◌≤◌, eqb, ltb, length, get_or, replicate, Float}
+use Rattle.std.specs.Prelude.{◌≡◌, Bool, true, false, cond, not, ◌&&◌, List, [], ◌∷◌, ℕ, zero, suc, ◌+◌, ◌*◌, ◌≤◌, eqb, length, get_or, replicate, Float, Option, None, Some}
+use Rattle.std.specs.Option.{unwrap_or, option_map}
 use Rattle.std.specs.Float.{nan}
 use Rattle.floats.specs.Defs.{zero32}
 use Rattle.rows.specs.Rows.{part}
-use Rattle.sink.specs.declared.Downmix.{Downmix}
-use Rattle.sink.specs.declared.Downmix.TheVariants.{Default, Given}
 use Rattle.sink.specs.Sink.{sink_of}
 
 -- sink k is in use and a device
 unfoldable pub plays_at : List ℕ → ℕ → Bool
 plays_at words k = not (eqb (get_or words (k * 10) 0) 0) && not (eqb (get_or words (k * 10 + 1) 0) 0)
 
--- the first that plays of the `left` sinks from k on; k + left where none does
-unfoldable pub first_from : List ℕ → ℕ → ℕ → ℕ
-first_from words zero k = k
-first_from words (suc left) k = cond (plays_at words k) k (first_from words left (k + 1))
+-- the first that plays of the `left` sinks from k on
+unfoldable pub first_from : List ℕ → ℕ → ℕ → Option ℕ
+first_from words zero k = None
+first_from words (suc left) k = cond (plays_at words k) (Some k) (first_from words left (k + 1))
 
 -- `sink.downmix`: whether factors are given is a word of its own
-unfoldable pub downmix_of : Bool → List Float → ℕ → Downmix
-downmix_of false floats k = Default
-downmix_of true floats k = Given (get_or floats (k * 4) nan) (get_or floats (k * 4 + 1) nan) (get_or floats (k * 4 + 2) nan) (get_or floats (k * 4 + 3) nan)
+unfoldable pub downmix_of : Bool → List Float → ℕ → Option (List Float)
+downmix_of false floats k = None
+downmix_of true floats k =
+    Some (get_or floats (k * 4) nan ∷ get_or floats (k * 4 + 1) nan ∷ get_or floats (k * 4 + 2) nan ∷ get_or floats (k * 4 + 3) nan ∷ [])
 
-unfoldable pub downmix_at : List ℕ → List Float → ℕ → Downmix
+unfoldable pub downmix_at : List ℕ → List Float → ℕ → Option (List Float)
 downmix_at words floats k = downmix_of (not (eqb (get_or words (k * 10 + 9) 0) 0)) floats k
 
 -- the frames of sink k: n samples, mix 0's buffers from `offset` on
@@ -32,7 +32,7 @@ sink_at buffers n offset words floats k = sink_of buffers n offset (part 6 (k * 
 -- the frames of a desk with `sinks` sinks
 unfoldable pub frames_of : List Float → ℕ → ℕ → List ℕ → List Float → ℕ → List Float
 frames_of buffers n offset words floats sinks =
-    cond (ltb (first_from words sinks 0) sinks) (sink_at buffers n offset words floats (first_from words sinks 0)) (replicate (2 * n) zero32)
+    unwrap_or (option_map (sink_at buffers n offset words floats) (first_from words sinks 0)) (replicate (2 * n) zero32)
 
 -- at most 8 sinks
 pub record Sinks (sinks : ℕ) (words : List ℕ) (floats : List Float) : Type 0 where

@@ -10,10 +10,7 @@ ghost use Rattle.gain.specs.Gain.{step_of, ramped, scaled, mixed, level, ramp_of
 fn both(from: f32, to: f32, v: f32) -> bool
     ensures { result ≡ (eq from v && eq to v) }
 {
-    if from == v {
-        return to == v;
-    }
-    false
+    from == v && to == v
 }
 
 // How far the gain moves from one of n samples to the next. The Rust divides by `n.max(1)`: an empty row has no sample to step to, so n
@@ -29,11 +26,9 @@ fn ramp_by(s: &mut [f32], from: f32, step: f32)
     ensures { s.new ≡ ramped step from s.old }
 {
     let mut v = from;
-    let mut i = 0;
-    while i < s.len() {
-        s[i] = s[i] * v;
+    for x in s.iter_mut() {
+        *x = *x * v;
         v = v + step;
-        i += 1;
     }
 }
 
@@ -41,10 +36,8 @@ fn ramp_by(s: &mut [f32], from: f32, step: f32)
 fn ramp_level(s: &mut [f32], gain: f32)
     ensures { s.new ≡ scaled gain s.old }
 {
-    let mut i = 0;
-    while i < s.len() {
-        s[i] = s[i] * gain;
-        i += 1;
+    for x in s.iter_mut() {
+        *x = *x * gain;
     }
 }
 
@@ -57,11 +50,11 @@ pub fn ramp(s: &mut [f32], from: f32, to: f32)
         return;
     }
     let step = step_of(from, to, s.len() as u32);
-    if !steady(from, step) {
+    if steady(from, step) {
+        ramp_level(s, from);
+    } else {
         ramp_by(s, from, step);
-        return;
     }
-    ramp_level(s, from);
 }
 
 // The samples of s, times a gain that begins at `from` and grows by `step` after each, added to those of d.
@@ -70,11 +63,9 @@ fn mix_moving(d: &mut [f32], s: &[f32], from: f32, step: f32)
     ensures { d.new ≡ mixed step from d.old s.now }
 {
     let mut v = from;
-    let mut i = 0;
-    while i < d.len() {
-        d[i] = d[i] + s[i] * v;
+    for (i, x) in d.iter_mut().enumerate() {
+        *x = *x + s[i] * v;
         v = v + step;
-        i += 1;
     }
 }
 
@@ -83,10 +74,8 @@ fn mix_level(d: &mut [f32], s: &[f32], v: f32)
     requires { length d.old ≤ length s.now }
     ensures { d.new ≡ level v d.old s.now }
 {
-    let mut i = 0;
-    while i < d.len() {
-        d[i] = d[i] + s[i] * v;
-        i += 1;
+    for (i, x) in d.iter_mut().enumerate() {
+        *x = *x + s[i] * v;
     }
 }
 
@@ -94,10 +83,7 @@ fn mix_level(d: &mut [f32], s: &[f32], v: f32)
 fn steady(from: f32, step: f32) -> bool
     ensures { result ≡ true → add binary32 from step ≡ from }
 {
-    if from == 0.0 {
-        return false;
-    }
-    from + step == from
+    from != 0.0 && from + step == from
 }
 
 // What `mix_moving` does, faster where the gain does not move.
@@ -107,13 +93,13 @@ fn mix_row(d: &mut [f32], s: &[f32], from: f32, step: f32)
 {
     if steady(from, step) {
         mix_level(d, s, from);
-        return;
+    } else {
+        mix_moving(d, s, from, step);
     }
-    mix_moving(d, s, from, step);
 }
 
-// The n samples of src, times a gain that goes from `from` to `to`, added to row `buffer` of the mix buffers. Both gains 0 add nothing; a row
-// that is not inside the buffers gets nothing.
+// The n samples of src, times a gain that goes from `from` to `to`, added to row `buffer` of the mix buffers. Both gains 0 add nothing;
+// a row that is not inside the buffers gets nothing.
 pub fn mix_into(buffers: &mut [f32], buffer: usize, n: usize, src: &[f32], from: f32, to: f32)
     requires { (buffer < 2 ^ 24) × (n < 2 ^ 24) × (n ≤ length src.now) }
     ensures { buffers.new ≡ mix_into buffers.old buffer n src.now from to }

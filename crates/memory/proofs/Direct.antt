@@ -4,11 +4,14 @@ use native.Mathlib.Omega.{arith}
 use mathlib.Core.Bool.{true, false}
 use mathlib.Core.Logic.{⊎_elim}
 use mathlib.Core.List.{List, ◌∷◌, ◌++◌, append-nil}
-use mathlib.Core.Path.{◌≡◌, ap, sym, ◌∙◌}
+use mathlib.Core.Path.{◌≡◌, ap, sym, subst, ◌∙◌}
 use borrow.Author.Tests.{eq-eqb}
 use lib.ListN.{length, take, drop}
 use Rattle.ranges.specs.Ranges.{Range, has, room_in, end_of, left_of, readable_of}
 use Rattle.ranges.specs.Ascending.{Ascending, none, more}
+use Rattle.std.proofs.Common.{Some}
+use Rattle.std.proofs.lemmas.Option.{none-some, cond_some}
+use Rattle.ranges.specs.declared.Stretch.{Stretch}
 use Rattle.ranges.specs.Stretch.{stretch_of}
 use Rattle.ranges.proofs.Tests.{true_or_false}
 use Rattle.ranges.proofs.Holds.{held_where}
@@ -51,29 +54,25 @@ module _ (m : List ℕ) (r : Range) (rs : List Range) (addr len : ℕ) where
     bytes = bytes_there r rs m addr len t ∙ d.bytes;
   }
 
-direct : (m : List ℕ) → length m < 2 ^ 64 → {e : ℕ} {rs : List Range} → Ascending (length m) e rs → (addr len : ℕ)
-    → len ≤ (stretch_of rs addr).room → Direct rs m addr len (stretch_of rs addr).at
-unfolding stretch_of left_of bytes_of
-direct m short none addr len fits =
-    let z : len ≡ 0 = omega arith in
-    record { inside = omega arith; left = z; bytes = λ i. take (sym z i) m }
-direct m short (more {r = r} {rs = rs} a p q s) addr len fits =
+direct : (m : List ℕ) → length m < 2 ^ 64 → {e : ℕ} {rs : List Range} → Ascending (length m) e rs → (addr len : ℕ) {s : Stretch}
+    → stretch_of rs addr ≡ Some s → len ≤ s.room → Direct rs m addr len s.at
+unfolding stretch_of
+direct m short none addr len {s} is fits = absurd (none-some s is)
+direct m short (more {r = r} {rs = rs} a p q later) addr len {s} is fits =
     ⊎_elim
     (λ (t : has r addr ≡ true).
-    let is = stretch_here r rs addr t in
-    rw is (direct_here m r rs addr len short p q t (rw is at fits)))
+    let here = (cond_some true _ _ (sym (stretch_here r rs addr t) ∙ is)).1 in
+    subst (λ (x : Stretch). Direct (r ∷ rs) m addr len x.at) here
+    (direct_here m r rs addr len short p q t (subst (λ (x : Stretch). len ≤ x.room) (sym here) fits)))
     (λ (t : has r addr ≡ false).
-    let is = stretch_there r rs addr t in
-    rw is (direct_there m r rs addr len t (direct m short s addr len (rw is at fits))))
+    direct_there m r rs addr len t (direct m short later addr len (sym (stretch_there r rs addr t) ∙ is) fits))
     (true_or_false (has r addr))
 
 -- so it succeeds, and gives that part
-pub direct_read : (m : List ℕ) → length m < 2 ^ 64 → {e : ℕ} {rs : List Range} → Ascending (length m) e rs → (addr len : ℕ)
-    → len ≤ (stretch_of rs addr).room
-    → ((stretch_of rs addr).at + len ≤ length m)
-    × (readable_of rs addr len ≡ true)
-    × (read_of rs m addr len ≡ take len (drop (stretch_of rs addr).at m))
+pub direct_read : (m : List ℕ) → length m < 2 ^ 64 → {e : ℕ} {rs : List Range} → Ascending (length m) e rs → (addr len : ℕ) {s : Stretch}
+    → stretch_of rs addr ≡ Some s → len ≤ s.room
+    → (s.at + len ≤ length m) × (readable_of rs addr len ≡ true) × (read_of rs m addr len ≡ take len (drop s.at m))
 unfolding readable_of
-direct_read m short {rs = rs} s addr len fits =
-    let d = direct m short s addr len fits in
+direct_read m short {rs = rs} ascending addr len is fits =
+    let d = direct m short ascending addr len is fits in
     (d.inside, eq-eqb (left_of rs addr len) 0 d.left, read_of_lem m rs addr len d.left ∙ d.bytes)

@@ -2,17 +2,14 @@
 -- Assumes nothing.
 use Prim.Native.Nat.{ℕ, ◌+◌, ◌-◌, ◌≤◌}
 use native.Mathlib.Omega.{arith}
-use mathlib.Core.Bool.{true, false}
-use mathlib.Core.Logic.{⊎_elim}
+use mathlib.Core.Bool.{true}
 use mathlib.Core.List.{List, [], ◌∷◌, ◌++◌, append-nil, append_assoc}
 use mathlib.Core.Path.{◌≡◌, refl, ap, sym, ◌∙◌}
 use borrow.Author.Tests.{eqb-true}
 use lib.ListN.{length, take, drop, length-append, length-drop, drop_of_length-le}
 use lib.Seq.{length-take-le, take_at, take_all}
-use Rattle.ranges.specs.Ranges.{Range, next_at, next_left, left_of, readable_of, goes_on}
+use Rattle.ranges.specs.Ranges.{Range, next_at, next_left, left_of, readable_of}
 use Rattle.ranges.specs.Ascending.{Ascending, more}
-use Rattle.ranges.proofs.Laws.{goes_stop}
-use Rattle.ranges.proofs.Walk.{Walk, walk_end}
 use Rattle.memory.specs.Memory.{piece_of, bytes_of, read_of}
 use Rattle.memory.specs.Given.{Given}
 use Rattle.memory.proofs.Pieces.{piece_long, bytes_none, read_of_lem}
@@ -93,16 +90,15 @@ module _ {m : List ℕ} {n : ℕ} {whole : List ℕ} {at done : ℕ} {out : List
         more_by (rw lent at given) ea (ap (λ (l : List ℕ). take done out ++ l) back) (tail g.ascending)
 
   -- nothing is left to gather
-  finished : {rs : List Range} → Gathering m n whole at done out rs → n - done ≡ 0 → out ≡ whole
-  finished {rs} g z =
+  pub gathered : {rs : List Range} → Gathering m n whole at done out rs → n - done ≡ 0 → out ≡ whole
+  gathered {rs} g z =
       sym (take_all done out (omega (arith, g.below, g.long)))
       ∙ sym (append-nil (take done out))
       ∙ (λ j. take done out ++ sym (bytes_none rs m at) j)
       ∙ (λ j. take done out ++ bytes_of rs m at (sym z j))
       ∙ g.made
 
-  pub gather_end : {xs : List ℕ} {i : ℕ} → Walk (Gathering m n whole at done out) xs i → goes_on (n - done) (length xs - i) ≡ false
-      → out ≡ whole
+  -- no range is left, and so nothing to gather
+  pub gather_end : Gathering m n whole at done out [] → out ≡ whole
   unfolding left_of
-  gather_end {xs} {i} walk h =
-      ⊎_elim (finished walk.rest) (λ l. let g = walk_end walk l in finished g g.left) (goes_stop (n - done) (length xs - i) h)
+  gather_end g = gathered g g.left

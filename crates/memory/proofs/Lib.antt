@@ -3,6 +3,5 @@ pub mod ByAddress
 pub mod Bytes
 pub mod Direct
 pub mod One
-pub mod Copying
 pub mod Gathering
 pub mod Examples

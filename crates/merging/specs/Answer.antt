@@ -1,12 +1,12 @@
 -- What the call answers and leaves: its questions (docs/QUESTIONS.md) in their sequence, each "no" with its number, and the merged block
 -- where all are answered "yes". A refusal's size is 0, and the output stays. Definitions only.
-use Rattle.std.specs.Prelude.{cond, List, ℕ, leb, length}
+use Rattle.std.specs.Prelude.{cond, List, ℕ, leb, length, Result, Ok, Err}
 use Rattle.rows.specs.Rows.{put}
 use Rattle.params.specs.declared.params.Params.{Params}
 use Rattle.params.specs.Sections.{voices_section}
 use Rattle.whole.specs.Counts.{counts_allowed}
-use Rattle.merging.specs.declared.MergeAnswer.{MergeAnswer}
-use Rattle.merging.specs.declared.MergeAnswer.TheVariants.{Merged, Counts, Voices, Channels, Output}
+use Rattle.merging.specs.declared.MergeError.{MergeError}
+use Rattle.merging.specs.declared.MergeError.TheVariants.{Counts, Voices, Channels, Output}
 use Rattle.merging.specs.Merge.{voices_apart, channels_apart, merged_block}
 
 -- the answer's number, how many bytes were written, and the output slice
@@ -32,10 +32,14 @@ merge_call p t c output =
     (merge_left 16 0 output))
     (merge_left 2 0 output)
 
+-- a refusal's number
+abbrev pub merge_number : MergeError → ℕ
+merge_number Counts = 2
+merge_number Voices = 16
+merge_number Channels = 17
+merge_number Output = 18
+
 -- an answer with the output as the call left it
-abbrev pub merge_seen : MergeAnswer → List ℕ → MergeOutcome
-merge_seen (Merged size) output = merge_left 0 size output
-merge_seen Counts output = merge_left 2 0 output
-merge_seen Voices output = merge_left 16 0 output
-merge_seen Channels output = merge_left 17 0 output
-merge_seen Output output = merge_left 18 0 output
+abbrev pub merge_seen : Result ℕ MergeError → List ℕ → MergeOutcome
+merge_seen (Ok size) output = merge_left 0 size output
+merge_seen (Err e) output = merge_left (merge_number e) 0 output

@@ -22,11 +22,8 @@ fn records_apart(k: usize, d: &[u8], e: &[u8]) -> bool
     ensures { result ≡ not (used_at d.now k && used_at e.now k) }
 {
     let one = fields::section(d, k * VOICE_IN, VOICE_IN);
-    if record_used(one) {
-        let other = fields::section(e, k * VOICE_IN, VOICE_IN);
-        return !record_used(other);
-    }
-    true
+    let other = fields::section(e, k * VOICE_IN, VOICE_IN);
+    !(record_used(one) && record_used(other))
 }
 
 // Whether each of n voices is.
@@ -34,38 +31,13 @@ pub fn voices_apart(n: usize, d: &[u8], e: &[u8]) -> bool
     requires { n ≤ 64 }
     ensures { result ≡ voices_apart n d.now e.now }
 {
-    let mut k = 0;
-    while k < n {
-        if !records_apart(k, d, e) {
-            return false;
-        }
-        k += 1;
-    }
-    true
+    (0..n).all(|k| records_apart(k, d, e))
 }
 
-// Whether mark j is set in at most one of two lists.
-fn mark_apart(j: usize, a: &[bool], b: &[bool]) -> bool
-    requires { (j < length a.now) × (j < length b.now) }
-    ensures { result ≡ not (get_or a.now j false && get_or b.now j false) }
-{
-    if a[j] {
-        return !b[j];
-    }
-    true
-}
-
-// Whether each of the first n is.
+// Whether each of the first n marks is set in at most one of two lists.
 pub fn marks_apart(n: usize, a: &[bool], b: &[bool]) -> bool
     requires { (n ≤ length a.now) × (n ≤ length b.now) }
     ensures { result ≡ all n (λ j. not (get_or a.now j false && get_or b.now j false)) }
 {
-    let mut j = 0;
-    while j < n {
-        if !mark_apart(j, a, b) {
-            return false;
-        }
-        j += 1;
-    }
-    true
+    (0..n).all(|j| !(a[j] && b[j]))
 }

@@ -9,7 +9,7 @@ ghost use Rattle.merging.specs.Marks.{NamesMarked};
 ghost use Rattle.merging.specs.Answer.{merge_done, merge_seen};
 
 use crate::pieces::{put_padded, put_records, put_resources};
-use crate::{MergeAnswer, RESOURCE_IN};
+use crate::{MergeError, RESOURCE_IN};
 use params::{HEADER_SIZE, Sections};
 use voices::VOICE_IN;
 
@@ -75,7 +75,7 @@ pub fn put_block(
     click: &[u8],
     named: &[bool],
     output: &mut [u8],
-) -> MergeAnswer
+) -> Result<usize, MergeError>
     requires { (n ≤ 64) × (n ≤ length named.now) × NamesMarked n (voices_section click.now) named.now }
     ensures { merge_seen result output.new
         ≡ merge_done (merged_block n title.now click.now) output.old }
@@ -87,10 +87,10 @@ pub fn put_block(
     let rest = fields::rest(title, s.effects_at);
     let size = rest_at + rest.len();
     if output.len() < size {
-        return MergeAnswer::Output;
+        return Err(MergeError::Output);
     }
     put_front(output, n, title, pools);
     put_sections(output, resources_at, n, title, click, named);
-    rows::copy_in_u8(output, rest_at, rest);
-    MergeAnswer::Merged(size)
+    rows::copy_in(output, rest_at, rest);
+    Ok(size)
 }

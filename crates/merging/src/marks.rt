@@ -14,11 +14,9 @@ fn mark_record(n: u32, e: &[u8], marks: &mut [bool])
     ensures { marks.new ≡ marked_by n e.now marks.old }
 {
     let channels = record_channels(e) as usize;
-    let mut c = 0;
-    while c < channels {
+    for c in 0..channels {
         let id = id_at(e, n, c) as usize;
         marks[id] = true;
-        c += 1;
     }
 }
 
@@ -38,9 +36,7 @@ pub fn mark_named(n: usize, d: &[u8], marks: &mut [bool])
     requires { (n ≤ most_marks) × (length marks.old ≡ most_marks) }
     ensures { marks.new ≡ marked n d.now marks.old }
 {
-    let mut k = 0;
-    while k < n {
+    for k in 0..n {
         mark_voice(n, d, k, marks);
-        k += 1;
     }
 }

@@ -5,7 +5,6 @@ ghost use Rattle.rows.specs.Tables.{joined};
 ghost use Rattle.merging.specs.Merge.{resource_size, record_size, padded, chosen_record, chosen_resource};
 
 use crate::RESOURCE_IN;
-use reply_sections::put_zeros;
 use voice_records::record_used;
 use voices::VOICE_IN;
 
@@ -15,40 +14,38 @@ pub fn put_padded(output: &mut [u8], at: usize, w: usize, s: &[u8], from: usize)
     ensures { output.new ≡ put output.old at (padded w from s.now) }
 {
     let there = fields::rest(s, from);
-    let n = fields::least(w, there.len());
-    rows::copy_in_u8(output, at, &there[..n]);
-    put_zeros(output, at + n, w - n);
+    let n = w.min(there.len());
+    rows::copy_in(output, at, &there[..n]);
+    rows::fill(output, at + n, w - n, 0);
 }
 
-// Voice k's record: the one in use of two sections, or zeros.
-fn put_record(output: &mut [u8], at: usize, d: &[u8], e: &[u8], k: usize)
-    requires { (k < 64) × (at + record_size ≤ length output.old) }
-    ensures { output.new ≡ put output.old at
-        (padded record_size 0 (chosen_record d.now e.now k)) }
+// Voice k's record: the one in use of two sections, or none.
+fn chosen_record<'a>(d: &'a [u8], e: &'a [u8], k: usize) -> &'a [u8]
+    requires { k < 64 }
+    ensures { result.now ≡ chosen_record d.now e.now k }
 {
     let one = fields::section(d, k * VOICE_IN, VOICE_IN);
     if record_used(one) {
-        put_padded(output, at, VOICE_IN, one, 0);
-        return;
+        return one;
     }
     let other = fields::section(e, k * VOICE_IN, VOICE_IN);
-    if record_used(other) {
-        put_padded(output, at, VOICE_IN, other, 0);
-        return;
-    }
-    put_zeros(output, at, VOICE_IN);
+    if record_used(other) { other } else { &[] }
 }
 
-// Those of n voices.
+// Those of n voices, zeros where there is none.
 pub fn put_records(output: &mut [u8], at: usize, n: usize, d: &[u8], e: &[u8])
     requires { (n ≤ 64) × (at + n * record_size ≤ length output.old) }
     ensures { output.new ≡ put output.old at
         (joined n (λ k. padded record_size 0 (chosen_record d.now e.now k))) }
 {
-    let mut k = 0;
-    while k < n {
-        put_record(output, at + k * VOICE_IN, d, e, k);
-        k += 1;
+    for k in 0..n {
+        put_padded(
+            output,
+            at + k * VOICE_IN,
+            VOICE_IN,
+            chosen_record(d, e, k),
+            0,
+        );
     }
 }
 
@@ -58,11 +55,8 @@ fn put_resource(output: &mut [u8], at: usize, named: bool, title: &[u8], click: 
     ensures { output.new ≡ put output.old at
         (chosen_resource named title.now click.now j) }
 {
-    if named {
-        put_padded(output, at, RESOURCE_IN, click, j * RESOURCE_IN);
-    } else {
-        put_padded(output, at, RESOURCE_IN, title, j * RESOURCE_IN);
-    }
+    let section = if named { click } else { title };
+    put_padded(output, at, RESOURCE_IN, section, j * RESOURCE_IN);
 }
 
 // The first n of them.
@@ -78,9 +72,7 @@ pub fn put_resources(
     ensures { output.new ≡ put output.old at
         (joined n (λ j. chosen_resource (get_or named.now j false) title.now click.now j)) }
 {
-    let mut j = 0;
-    while j < n {
+    for j in 0..n {
         put_resource(output, at + j * RESOURCE_IN, named[j], title, click, j);
-        j += 1;
     }
 }

@@ -2,10 +2,10 @@
 // sixteen nibbles are counted by rank, from -8 up, so that all sums are of natural numbers.
 #![tactic(auto)]
 
-ghost use Rattle.std.specs.Prelude.{◌≡◌, ◌≤◌, ◌<◌, ◌^◌, cond, eqb, ◌*ℤ◌};
+ghost use Rattle.std.specs.Prelude.{◌≡◌, ◌≤◌, ◌<◌, ◌^◌, cond, eqb};
 ghost use Rattle.std.proofs.Math.IntN.{sub_ℕ};
 ghost use Rattle.nearest.specs.Nearest.{Chosen};
-ghost use Rattle.nearest.specs.Levels.{offset_binary, apart_of, prediction_of, level_at, reach_of, NearestRank};
+ghost use Rattle.nearest.specs.Levels.{offset_binary, prediction_of, level_at, reach_of, NearestRank};
 
 // The sum that stands for the sample -32768, but for the eight steps from the nibble -8 to 0: 2^21 - 32768.
 const ORIGIN: u32 = 2064384;
@@ -14,7 +14,7 @@ const ORIGIN: u32 = 2064384;
 fn offset_binary(x: i16) -> u32
     ensures { (result ≡ offset_binary x) × (result ≤ 65535) }
 {
-    ((x as i64) + 32768) as u32
+    (i64::from(x) + 32768) as u32
 }
 
 // And back.
@@ -25,26 +25,12 @@ fn from_offset_binary(y: u32) -> i16
     ((y as i32) - 32768) as i16
 }
 
-// How far two numbers are apart.
-fn apart(a: u32, b: u32) -> u32
-    ensures { result ≡ apart_of a b }
-{
-    if a < b { b - a } else { a - b }
-}
-
-// The whole product of two 16-bit numbers.
-fn product(a: i16, b: i16) -> i64
-    ensures { result ≡ a *ℤ b }
-{
-    (a as i64) * (b as i64)
-}
-
 // What a pair and the last two samples add to every nibble, counted from -2^21 up.
 fn prediction(c: i16, d: i16, h0: i16, h1: i16) -> u32
     ensures { (result ≡ prediction_of c d h0 h1) × (result < 2 ^ 22) }
 {
-    let a = product(c, h0);
-    let b = product(d, h1);
+    let a = i64::from(c) * i64::from(h0);
+    let b = i64::from(d) * i64::from(h1);
     let z = a + b + 0x1_0000_0400;
     ((z as u64) / 2048) as u32
 }
@@ -65,13 +51,7 @@ fn level(predicted: u32, s: u16, r: u32) -> u32
     let p = step_size(s);
     let x = r * p + predicted;
     let low = 8 * p + ORIGIN;
-    if x <= low {
-        return 0;
-    }
-    if x - low < 65535 {
-        return x - low;
-    }
-    65535
+    x.saturating_sub(low).min(65535)
 }
 
 // The first rank whose sample, unclamped, reaches t; 16 if none does.
@@ -84,11 +64,7 @@ fn first_reaching(t: u32, predicted: u32, s: u16) -> u32
     if need <= predicted {
         return 0;
     }
-    let q = (need - predicted + (p - 1)) >> s;
-    if q < 16 {
-        return q;
-    }
-    16
+    ((need - predicted + (p - 1)) >> s).min(16)
 }
 
 // A rank, and the sample of its nibble.
@@ -102,13 +78,8 @@ struct Near {
 fn lowest_alike(y: u32, low: u32) -> Near
     ensures { (result.rank ≡ cond (eqb y 0) 0 low) × (result.level ≡ y) }
 {
-    if y == 0 {
-        return Near { rank: 0, level: y };
-    }
-    Near {
-        rank: low,
-        level: y,
-    }
+    let rank = if y == 0 { 0 } else { low };
+    Near { rank, level: y }
 }
 
 // The rank whose sample is nearest to t, the lowest of several, and that sample.
@@ -150,12 +121,9 @@ pub fn choose_nibble(x: i16, s: u16, c: i16, d: i16, h0: i16, h1: i16) -> Choice
     let predicted = prediction(c, d, h0, h1);
     let near = nearest_rank(t, predicted, s);
     let nibble = ((near.rank + 8) % 16) as u8;
-    let y = near.level;
-    let sample = from_offset_binary(y);
-    let difference = apart(t, y);
     Choice {
         nibble,
-        sample,
-        difference,
+        sample: from_offset_binary(near.level),
+        difference: t.abs_diff(near.level),
     }
 }

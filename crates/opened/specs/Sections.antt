@@ -3,7 +3,7 @@ use Rattle.std.specs.Prelude.{◌≡◌, get_or, drop}
 use Rattle.std.proofs.Math.Path.{refl, ap}
 use Rattle.std.proofs.Common.{sym, ◌∙◌, eq-or-lt_of_le, suc-mul, zero-mul}
 use Rattle.std.proofs.Math.Logic.{⊎_elim}
-use mathlib.Core.List.{List, ◌∷◌, ◌++◌}
+use mathlib.Core.List.{List, ◌++◌}
 use Prim.Native.Nat.{ℕ, zero, suc, ◌+◌, ◌*◌, ◌≤◌, ◌<◌}
 use native.Mathlib.Omega.{arith}
 use Rattle.std.proofs.Math.ListN.{length, take, replicate, length-drop, replicate-append-replicate}
@@ -11,7 +11,7 @@ use Rattle.std.proofs.Math.Seq.{take_at, take-append-le, drop-append-add}
 use Rattle.std.proofs.lemmas.List.{drop-append-le}
 use Rattle.rows.specs.Rows.{part}
 use Rattle.rows.specs.Folds.{row_end}
-use Rattle.rows.specs.Tables.{table, joined, length_joined}
+use Rattle.rows.specs.Tables.{joined, length_joined}
 use Rattle.sound_rows.specs.Spelled.{part_at, part_whole}
 
 module _ {ℓ} {A : Type ℓ} where
@@ -69,11 +69,6 @@ module _ {ℓ} {A : Type ℓ} where
       sym (part_at w (i * w) (joined n f) j z hj) ∙ ap (λ (r : List A). get_or r j z) (part_joined w n f wide i hi)
 
   -- ---- one element over and over
-
-  pub table_same : (n : ℕ) (x : A) → table n (λ _. x) ≡ replicate n x
-  unfolding table
-  table_same zero x = refl
-  table_same (suc n) x = ap (λ (r : List A). x ∷ r) (table_same n x)
 
   pub joined_same : (w n : ℕ) (x : A) → joined n (λ _. replicate w x) ≡ replicate (n * w) x
   unfolding joined

@@ -6,8 +6,7 @@ ghost use Rattle.state.specs.State.{floats_of};
 ghost use Rattle.opened.specs.Opened.{opened_floats};
 ghost use Rattle.opened.specs.Parts.{mix_floats, desk_floats};
 
-use crate::repeated::repeat_f32;
-use crate::zeros::zeros_f32;
+use crate::repeated::repeat;
 use params::Params;
 
 // n mixes, from `at` on: volume, and 576 volumes.
@@ -17,7 +16,7 @@ fn put_mixes(floats: &mut [f32], at: usize, n: usize)
 {
     let mut row = [0.0f32; 577];
     row[0] = 1.0;
-    repeat_f32(floats, at, n, &row);
+    repeat(floats, at, n, &row);
 }
 
 // The desk's rows, from `at` on.
@@ -28,8 +27,8 @@ fn put_desk(floats: &mut [f32], at: usize, mixes: usize, sinks: usize, destinati
     let sinks_at = at + mixes * 577;
     let destinations_at = sinks_at + sinks * 4;
     put_mixes(floats, at, mixes);
-    zeros_f32(floats, sinks_at, sinks * 4);
-    zeros_f32(floats, destinations_at, destinations * 48);
+    rows::fill(floats, sinks_at, sinks * 4, 0.0);
+    rows::fill(floats, destinations_at, destinations * 48, 0.0);
 }
 
 pub fn open_floats(p: Params, floats: &mut [f32])
@@ -41,8 +40,8 @@ pub fn open_floats(p: Params, floats: &mut [f32])
     let mixes = p.sub_mixes as usize + 1;
     let resources = voices * 4;
     let desk = resources + voices * 48;
-    zeros_f32(floats, 0, resources);
-    zeros_f32(floats, resources, voices * 48);
+    rows::fill(floats, 0, resources, 0.0);
+    rows::fill(floats, resources, voices * 48, 0.0);
     put_desk(
         floats,
         desk,

@@ -3,32 +3,30 @@
 
 ghost use Rattle.std.specs.Prelude.{◌≡◌};
 ghost use Rattle.params.specs.Sizes.{Allowed};
-ghost use Rattle.state.specs.State.{state_of, Sized};
+ghost use Rattle.state.specs.State.{Sized};
+ghost use Rattle.slices.specs.Slices.{held, Kept};
 ghost use Rattle.opened.specs.Opened.{opened};
 
 mod gains;
 mod repeated;
 mod words;
-mod zeros;
 
 use params::Params;
+use slices::Slices;
 
 // Makes the state of a renderer with these parameters, whatever the slices held.
-pub fn open_state(
-    p: Params,
-    words: &mut [u32],
-    longs: &mut [u64],
-    floats: &mut [f32],
-    contexts: &mut [u16],
-    history: &mut [f32],
-)
-    requires fact_1 { Allowed p }
-    requires fact_2 { Sized p (state_of words.old longs.old floats.old contexts.old history.old) }
-    ensures { state_of words.new longs.new floats.new contexts.new history.new ≡ opened p }
+pub fn open_state(p: Params, s: &mut Slices<'_>)
+    requires allowed { Allowed p }
+    requires sized { Sized p (held s.old) }
+    ensures made { held s.new ≡ opened p }
+    ensures kept { Kept s.old s.new }
 {
-    words::open_words(p, words);
-    zeros::zeros_u64(longs, 0, longs.len());
-    gains::open_floats(p, floats);
-    zeros::zeros_u16(contexts, 0, contexts.len());
-    zeros::zeros_f32(history, 0, history.len());
+    let longs = s.longs.len();
+    let contexts = s.contexts.len();
+    let history = s.history.len();
+    words::open_words(p, s.words);
+    rows::fill(s.longs, 0, longs, 0);
+    gains::open_floats(p, s.floats);
+    rows::fill(s.contexts, 0, contexts, 0);
+    rows::fill(s.history, 0, history, 0.0);
 }

@@ -7,8 +7,7 @@ ghost use Rattle.state.specs.State.{words_of};
 ghost use Rattle.opened.specs.Opened.{opened_words};
 ghost use Rattle.opened.specs.Parts.{voice_words, mix_words, destination_words, desk_words};
 
-use crate::repeated::repeat_u32;
-use crate::zeros::zeros_u32;
+use crate::repeated::repeat;
 use params::Params;
 
 const UNUSED_MIX: u32 = 0x7fff_ffff;
@@ -34,7 +33,7 @@ fn put_params(p: Params, words: &mut [u32])
         p.splitter_destinations,
         p.revision,
     ];
-    rows::copy_in_u32(words, 0, &row);
+    rows::copy_in(words, 0, &row);
 }
 
 // n voices, from `at` on: the default has a play mark, and every other word is 0.
@@ -44,7 +43,7 @@ fn put_voices(words: &mut [u32], at: usize, n: usize)
 {
     let mut row = [0u32; 58];
     row[2] = STOPPED;
-    repeat_u32(words, at, n, &row);
+    repeat(words, at, n, &row);
 }
 
 // n mixes: used, buffer_count, destination, splitter, offset.
@@ -52,8 +51,7 @@ fn put_mixes(words: &mut [u32], at: usize, n: usize)
     requires { at + n * 5 ≤ length words.old }
     ensures { words.new ≡ put words.old at (mix_words n) }
 {
-    let row = [0, 0, UNUSED_MIX, UNUSED_SPLITTER, 0];
-    repeat_u32(words, at, n, &row);
+    repeat(words, at, n, &[0, 0, UNUSED_MIX, UNUSED_SPLITTER, 0]);
 }
 
 // n destinations: used, mix.
@@ -61,8 +59,7 @@ fn put_destinations(words: &mut [u32], at: usize, n: usize)
     requires { at + n * 2 ≤ length words.old }
     ensures { words.new ≡ put words.old at (destination_words n) }
 {
-    let row = [0, UNUSED_MIX];
-    repeat_u32(words, at, n, &row);
+    repeat(words, at, n, &[0, UNUSED_MIX]);
 }
 
 // The desk's rows, from `at` on.
@@ -81,8 +78,8 @@ fn put_desk(
     let splitters_at = sinks_at + sinks * 10;
     let destinations_at = splitters_at + splitters * 129;
     put_mixes(words, at, mixes);
-    zeros_u32(words, sinks_at, sinks * 10);
-    zeros_u32(words, splitters_at, splitters * 129);
+    rows::fill(words, sinks_at, sinks * 10, 0);
+    rows::fill(words, splitters_at, splitters * 129, 0);
     put_destinations(words, destinations_at, destinations);
 }
 

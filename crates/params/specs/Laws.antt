@@ -2,6 +2,7 @@
 use Rattle.std.specs.Prelude.{◌≡◌, ℕ, zero, suc, ◌-◌, ◌*◌, ◌/◌, ◌^◌, ◌<◌, ◌≤◌, Bool, true, false, cond, ◌&&◌, nat_le, nat_lt, refl}
 use Rattle.std.proofs.Common.{ap, div-mul-le_self, mul-div_cancel, mul-zero, arith, le-leb, le-ltb, lt-ltb}
 use Rattle.std.proofs.lemmas.Bool.{lt-leb}
+use Rattle.std.proofs.lemmas.Bool.Decides.{nat_tests}
 use Rattle.params.specs.declared.params.Params.{Params}
 use Rattle.params.specs.Sizes.{Allowed, revision_of, pools_of, info_bytes, fixed_of, effects_bytes, reply_length}
 
@@ -22,6 +23,11 @@ effects_short p e h = simp (le-ltb (fixed_of p) e h, and_false)
 pub effects_some : (p : Params) (e : ℕ) → 0 < p.effects → fixed_of p < e → effects_bytes p e ≡ (e - fixed_of p) / p.effects * p.effects
 unfolding effects_bytes
 effects_some p e h k = simp (lt-ltb 0 p.effects h, lt-ltb (fixed_of p) e k)
+
+-- what the rest leaves, rounded down, also where it leaves nothing
+pub effects_room : (p : Params) (e : ℕ) → 0 < p.effects → effects_bytes p e ≡ (e - fixed_of p) / p.effects * p.effects
+unfolding effects_bytes
+effects_room p e h = grind (arith, nat_tests)
 
 -- ---- how much they are
 

@@ -24,27 +24,17 @@ impl Params {
     pub fn parse(d: &[u8]) -> Params
         ensures { result ≡ parse_of d.now }
     {
-        let sample_rate = fields::u32_at(d, 0x00);
-        let sample_count = fields::u32_at(d, 0x04);
-        let mix_buffers = fields::u32_at(d, 0x08);
-        let sub_mixes = fields::u32_at(d, 0x0c);
-        let voices = fields::u32_at(d, 0x10);
-        let sinks = fields::u32_at(d, 0x14);
-        let effects = fields::u32_at(d, 0x18);
-        let splitters = fields::u32_at(d, 0x24);
-        let splitter_destinations = fields::u32_at(d, 0x28);
-        let revision = fields::u32_at(d, 0x30);
         Params {
-            sample_rate,
-            sample_count,
-            mix_buffers,
-            sub_mixes,
-            voices,
-            sinks,
-            effects,
-            splitters,
-            splitter_destinations,
-            revision,
+            sample_rate: fields::u32_at(d, 0x00),
+            sample_count: fields::u32_at(d, 0x04),
+            mix_buffers: fields::u32_at(d, 0x08),
+            sub_mixes: fields::u32_at(d, 0x0c),
+            voices: fields::u32_at(d, 0x10),
+            sinks: fields::u32_at(d, 0x14),
+            effects: fields::u32_at(d, 0x18),
+            splitters: fields::u32_at(d, 0x24),
+            splitter_destinations: fields::u32_at(d, 0x28),
+            revision: fields::u32_at(d, 0x30),
         }
     }
 
@@ -97,14 +87,13 @@ impl Params {
         requires { Allowed self }
         ensures { result ≡ fixed_of self }
     {
-        let render_info = self.render_info_size();
         crate::HEADER_SIZE
             + self.memory_pools() as usize * crate::MEMORY_POOL_OUT
             + self.voices as usize * crate::VOICE_OUT
             + self.sinks as usize * crate::SINK_OUT
             + crate::PERFORMANCE_OUT
             + crate::BEHAVIOR_OUT
-            + render_info
+            + self.render_info_size()
     }
 
     // The bytes of a reply's effects: as many for each as the expected size leaves room for.
@@ -112,16 +101,12 @@ impl Params {
         requires { Allowed self }
         ensures { result ≡ effects_bytes self expected }
     {
+        if self.effects == 0 {
+            return 0;
+        }
         let effects = self.effects as usize;
-        if effects == 0 {
-            return 0;
-        }
-        let fixed = self.fixed_output_size();
-        let out_size = expected as usize;
-        if out_size <= fixed {
-            return 0;
-        }
-        (out_size - fixed) / effects * effects
+        let room = (expected as usize).saturating_sub(self.fixed_output_size());
+        room / effects * effects
     }
 
     pub fn reply_length(self, expected: u32) -> usize

@@ -27,12 +27,9 @@ impl Sections {
         let voices_size = fields::u32_at(input, 0x0c) as usize;
         let resources_size = fields::u32_at(input, 0x10) as usize;
         let effects_size = fields::u32_at(input, 0x14) as usize;
-        let mixes_size = fields::u32_at(input, 0x18) as usize;
-        let sinks_size = fields::u32_at(input, 0x1c) as usize;
         let resources_at = crate::HEADER_SIZE + behavior_size + pools_size;
         let voices_at = resources_at + resources_size;
         let effects_at = voices_at + voices_size;
-        let splitters_at = effects_at + effects_size;
         Sections {
             behavior_size,
             pools_size,
@@ -42,9 +39,9 @@ impl Sections {
             voices_size,
             effects_at,
             effects_size,
-            splitters_at,
-            mixes_size,
-            sinks_size,
+            splitters_at: effects_at + effects_size,
+            mixes_size: fields::u32_at(input, 0x18) as usize,
+            sinks_size: fields::u32_at(input, 0x1c) as usize,
         }
     }
 }

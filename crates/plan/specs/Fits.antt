@@ -1,6 +1,7 @@
 -- What a plan promises of its acts: their reads succeed, and the samples that they make fit the room asked for. Assumes nothing.
-use Rattle.std.specs.Prelude.{◌≡◌, ℕ, zero, suc, ◌+◌, ◌-◌, ◌*◌, ◌/◌, ◌%◌, ◌^◌, ◌<◌, ◌≤◌, min, Bool, true, false, cond, not, ◌&&◌, ◌||◌, List, [], ◌∷◌, ◌++◌, length, ◌==◌, nat_le, nat_lt, refl}
+use Rattle.std.specs.Prelude.{◌≡◌, ℕ, zero, suc, ◌+◌, ◌-◌, ◌*◌, ◌/◌, ◌%◌, ◌^◌, ◌<◌, ◌≤◌, min, Bool, true, false, cond, not, ◌&&◌, ◌||◌, List, [], ◌∷◌, ◌++◌, length, ◌==◌, nat_le, nat_lt, refl, Option, Some, None}
 use Rattle.std.proofs.Common.{arith, ◌∙◌, eqb-true, leb-true, leb-false, ltb-true, le-leb, lt-ltb, length-set, length-append}
+use Rattle.std.specs.Bool.{then_some}
 use Rattle.ranges.specs.Ranges.{readable_of}
 use Rattle.adpcm.specs.Places.{nibble_of, size_of}
 use Rattle.adpcm.specs.Runs.{count_of, count_le}
@@ -12,12 +13,10 @@ use Rattle.plan.specs.Source.{Source}
 use Rattle.plan.specs.declared.Act.{Act}
 use Rattle.plan.specs.declared.Decode.{Decode}
 use Rattle.plan.specs.declared.Decode.TheVariants.{Nothing, Pcm, Adpcm, Silence}
-use Rattle.plan.specs.declared.attempt.Got.{Got}
-use Rattle.plan.specs.declared.attempt.Got.TheVariants.{Missing, Samples}
 use Rattle.plan.specs.declared.attempt.Attempt.{Attempt}
 use Rattle.plan.specs.Attempt.{sample, no_samples, pcm_plan, adpcm_plan, decode_plan}
 use Rattle.plan.specs.Rounds.{Round, Moved, renews_of, in_loop, loops_over, at, after_missing, after_loop, span_over, after_got}
-use Rattle.plan.specs.Rounds.{round_of, round_plan, Planned, grown, rounds, more, has_table, plan_of}
+use Rattle.plan.specs.Rounds.{context_read, round_of, round_plan, Planned, grown, rounds, more, has_table, plan_of}
 
 -- the samples that a decode asks room for
 abbrev pub want_of : Decode → ℕ
@@ -40,6 +39,11 @@ reads_of s (Pcm width addr n) = readable_of s.ranges addr (n * (width * s.channe
 reads_of s (Adpcm want addr bytes start) = readable_of s.ranges addr bytes
 reads_of s (Silence n) = true
 
+-- the read of a context succeeds, where one is read
+abbrev pub context_reads : Source → Option ℕ → Bool
+context_reads s None = true
+context_reads s (Some addr) = readable_of s.ranges addr 6
+
 -- PCM is 2 or 4 bytes wide; ADPCM starts below 2^32, and reads from its first sample's byte on no more than its samples take
 abbrev pub formed_of : Decode → Bool
 formed_of Nothing = true
@@ -50,7 +54,7 @@ formed_of (Silence n) = true
 
 -- an act's reads succeed
 pub record Reads (s : Source) (a : Act) : Type 0 where
-  pub context : a.renews ≡ true → readable_of s.ranges a.context 6 ≡ true
+  pub context : context_reads s a.context ≡ true
   pub decode : reads_of s a.decode ≡ true
   pub formed : formed_of a.decode ≡ true
 
@@ -89,9 +93,9 @@ by_cond : {A : Type 0} (P : A → Type 0) (b : Bool) {x y : A} → (b ≡ true �
 by_cond P true f g = f refl
 by_cond P false f g = g refl
 
-abbrev got_of : Got → ℕ
-got_of Missing = 0
-got_of (Samples n) = n
+abbrev got_of : Option ℕ → ℕ
+got_of None = 0
+got_of (Some n) = n
 
 -- what is tried: its room, what it makes, and that it can be read
 record Tried (s : Source) (want : ℕ) (a : Attempt) : Type 0 where
@@ -109,7 +113,7 @@ tried_pcm width s w start want h =
     by_cond (Tried s want) (min want (w.size / (width * s.channels) - start.0) == 0) (λ e. tried_none s want)
     (λ e. by_cond (Tried s want) (readable_of s.ranges _ _) (λ r. record { room = omega arith; made = refl; reads = r; formed = h }) (λ r. tried_none s want))
 
-got_count : (n : ℕ) (b : Bool) → (n == 0) ≡ b → n ≡ got_of (cond b Missing (Samples n))
+got_count : (n : ℕ) (b : Bool) → (n == 0) ≡ b → n ≡ got_of (cond b None (Some n))
 got_count n true e = eqb-true n 0 e
 got_count n false e = refl
 
@@ -125,7 +129,7 @@ tried_adpcm s w start want h =
     let last = min (size_of (start.0 + want)) w.size in
     let addr = (w.addr + first) % 2 ^ 64 in
     let n = count_of (last - first) start.0 want in
-    let a : Attempt = record { got = cond (n == 0) Missing (Samples n); decode = Adpcm want addr (last - first) start } in
+    let a : Attempt = record { got = cond (n == 0) None (Some n); decode = Adpcm want addr (last - first) start } in
     by_cond (Tried s want) (nat_le last first) (λ e. tried_none s want)
     (λ e. by_cond (Tried s want) (readable_of s.ranges addr (last - first)) {x = a}
     (λ r. record { room = omega arith; made = got_count n (n == 0) refl; reads = r; formed = formed_adpcm addr (last - first) start want h (omega (arith, leb-false last first e)) })
@@ -185,16 +189,21 @@ pub record Rounded (q : Queue) (s : Source) (left : ℕ) (r : Round) : Type 0 wh
   pub reads : Reads s r.act
   pub queue : Kept q r.queue
 
-rounded_of : (q : Queue) (s : Source) (w : WaveBuffer) (total left : ℕ) (act : Act) (g : Got) → want_of act.decode ≤ left → made_of act.decode ≡ got_of g → Reads s act
+rounded_of : (q : Queue) (s : Source) (w : WaveBuffer) (total left : ℕ) (act : Act) (g : Option ℕ) → want_of act.decode ≤ left → made_of act.decode ≡ got_of g → Reads s act
     → Rounded q s left (round_of q s w total act g)
 unfolding round_of
-rounded_of q s w total left act Missing h m r = record { room = h; made = m; reads = r; queue = kept_missing q }
-rounded_of q s w total left act (Samples n) h m r = record { room = h; made = m; reads = r; queue = kept_got q s.decoding s.buffers_v2 w total n }
+rounded_of q s w total left act None h m r = record { room = h; made = m; reads = r; queue = kept_missing q }
+rounded_of q s w total left act (Some n) h m r = record { room = h; made = m; reads = r; queue = kept_got q s.decoding s.buffers_v2 w total n }
 
 renews_reads : (s : Source) (w : WaveBuffer) (offset : ℕ) → renews_of s w offset ≡ true → readable_of s.ranges w.context 6 ≡ true
 unfolding renews_of
 renews_reads s w offset h =
     (both (not (w.context == 0)) _ (both (s.format == 6) _ (both (offset == 0) _ h).1).1).1
+
+context_reads_made : (s : Source) (w : WaveBuffer) (offset : ℕ) (b : Bool) → renews_of s w offset ≡ b
+    → context_reads s (then_some b w.context) ≡ true
+context_reads_made s w offset true h = renews_reads s w offset h
+context_reads_made s w offset false h = refl
 
 under : (x left room : ℕ) → x ≤ min left room → x ≤ left
 under x left room h = omega arith
@@ -207,10 +216,10 @@ rounded q s left =
     let start = cond looped w.loop_start w.start in
     let total = cond looped w.loop_end w.end - start in
     let tried = decode_plan s w (sample ((start + q.offset) % 2 ^ 32)) (min left (total - q.offset)) in
-    let act : Act = record { renews = renews_of s w q.offset; context = w.context; decode = tried.decode } in
+    let act : Act = record { context = context_read s w q.offset; decode = tried.decode } in
     let t = tried_decode s w (sample ((start + q.offset) % 2 ^ 32)) (min left (total - q.offset)) (omega arith) in
     rounded_of q s w total left act tried.got (under (want_of tried.decode) left (total - q.offset) t.room) t.made
-    (record { context = renews_reads s w q.offset; decode = t.reads; formed = t.formed })
+    (record { context = context_reads_made s w q.offset (renews_of s w q.offset) refl; decode = t.reads; formed = t.formed })
 
 -- ---- the rounds
 

@@ -1,5 +1,5 @@
 -- What the functions of a plan put together is what their definitions say. Assumes nothing.
-use Rattle.std.specs.Prelude.{◌≡◌, ℕ, ◌+◌, ◌-◌, ◌*◌, ◌/◌, ◌%◌, ◌^◌, min, Bool, true, false, cond, not, ◌==◌, ◌≢◌, nat_eq, nat_le, refl}
+use Rattle.std.specs.Prelude.{◌≡◌, ℕ, ◌+◌, ◌-◌, ◌*◌, ◌/◌, ◌%◌, ◌^◌, min, Bool, true, false, cond, not, ◌==◌, ◌≢◌, nat_eq, nat_le, refl, Option, Some, None}
 use Rattle.std.proofs.Common.{ap, sym, ◌∙◌, arith}
 use borrow.Author.Tests.{eq-eqb, ne_eqb, leb-true, leb-false}
 use Rattle.ranges.specs.Ranges.{readable_of}
@@ -12,11 +12,9 @@ use Rattle.voice.specs.declared.queue.Queue.{Queue}
 use Rattle.plan.specs.Source.{Source}
 use Rattle.plan.specs.declared.Act.{Act}
 use Rattle.plan.specs.declared.Decode.TheVariants.{Nothing, Pcm, Adpcm, Silence}
-use Rattle.plan.specs.declared.attempt.Got.{Got}
-use Rattle.plan.specs.declared.attempt.Got.TheVariants.{Missing, Samples}
 use Rattle.plan.specs.declared.attempt.Attempt.{Attempt}
 use Rattle.plan.specs.Attempt.{sample, no_samples, pcm_plan, adpcm_plan, decode_plan}
-use Rattle.plan.specs.Rounds.{Moved, renews_of, in_loop, loops_over, resets_played, at, end_if, reset_if}
+use Rattle.plan.specs.Rounds.{Moved, context_read, in_loop, loops_over, resets_played, at, end_if, reset_if}
 use Rattle.plan.specs.Rounds.{after_missing, after_loop, span_over, after_got, round_of, round_plan}
 
 -- ---- decodes
@@ -25,12 +23,12 @@ use Rattle.plan.specs.Rounds.{after_missing, after_loop, span_over, after_got, r
 pub pcm_made : (width : ℕ) (s : Source) (w : WaveBuffer) (start : Sample) (want : ℕ) {n addr : ℕ} {e b : Bool}
     → n ≡ min want (w.size / (width * s.channels) - start.0) → (n == 0) ≡ e → addr ≡ (w.addr + start.0 * (width * s.channels)) % 2 ^ 64
     → readable_of s.ranges addr (n * (width * s.channels)) ≡ b
-    → cond e no_samples (cond b (record { got = Samples n; decode = Pcm width addr n }) no_samples) ≡ pcm_plan width s w start want
+    → cond e no_samples (cond b (record { got = Some n; decode = Pcm width addr n }) no_samples) ≡ pcm_plan width s w start want
 unfolding pcm_plan
 pcm_made width s w start want hn he ha hb = λ i.
     cond ((sym he ∙ ap (λ (x : ℕ). nat_eq x 0) hn) i) no_samples
     (cond ((sym hb ∙ (λ j. readable_of s.ranges (ha j) (hn j * (width * s.channels)))) i)
-    (record { got = Samples (hn i); decode = Pcm width (ha i) (hn i) })
+    (record { got = Some (hn i); decode = Pcm width (ha i) (hn i) })
     no_samples)
 
 -- the bytes from a up to b are none where b is not past a
@@ -42,7 +40,7 @@ none_by a b false e = ne_eqb (b - a) 0 (λ z. omega (arith, leb-false b a e))
 pub adpcm_made : (s : Source) (w : WaveBuffer) (start : Sample) (want : ℕ) {first bytes addr n : ℕ} {e b z : Bool}
     → first ≡ nibble_of start.0 / 2 → bytes ≡ min (size_of (start.0 + want)) w.size - first → (bytes == 0) ≡ e → addr ≡ (w.addr + first) % 2 ^ 64
     → readable_of s.ranges addr bytes ≡ b → n ≡ count_of bytes start.0 want → (n == 0) ≡ z
-    → cond e no_samples (cond b (record { got = cond z Missing (Samples n); decode = Adpcm want addr bytes start }) no_samples) ≡ adpcm_plan s w start want
+    → cond e no_samples (cond b (record { got = cond z None (Some n); decode = Adpcm want addr bytes start }) no_samples) ≡ adpcm_plan s w start want
 unfolding adpcm_plan
 adpcm_made s w start want {n = n} hf hl he ha hb hn hz =
     let last = min (size_of (start.0 + want)) w.size in
@@ -53,12 +51,12 @@ adpcm_made s w start want {n = n} hf hl he ha hb hn hz =
     λ i.
     cond (e i) no_samples
     (cond ((sym hb ∙ (λ j. readable_of s.ranges (a j) (l j))) i)
-    (record { got = cond ((sym hz ∙ (λ j. nat_eq (m j) 0)) i) Missing (Samples (m i)); decode = Adpcm want (a i) (l i) start })
+    (record { got = cond ((sym hz ∙ (λ j. nat_eq (m j) 0)) i) None (Some (m i)); decode = Adpcm want (a i) (l i) start })
     no_samples)
 
 module _ (s : Source) (w : WaveBuffer) (start : Sample) (want : ℕ) where
   -- by the format
-  pub decode_none : want ≡ 0 → record { got = Samples 0; decode = Nothing } ≡ decode_plan s w start want
+  pub decode_none : want ≡ 0 → record { got = Some 0; decode = Nothing } ≡ decode_plan s w start want
   unfolding decode_plan
   decode_none h = rw (eq-eqb want 0 h)
 
@@ -75,7 +73,7 @@ module _ (s : Source) (w : WaveBuffer) (start : Sample) (want : ℕ) where
   decode_adpcm_lem h e = rw (ne_eqb want 0 h, e)
 
   pub decode_other : (want ≢ 0) → (s.format ≢ 2) → (s.format ≢ 5) → (s.format ≢ 6)
-      → record { got = Samples want; decode = Silence want } ≡ decode_plan s w start want
+      → record { got = Some want; decode = Silence want } ≡ decode_plan s w start want
   unfolding decode_plan
   decode_other h h₂ h₅ h₆ = rw (ne_eqb want 0 h, ne_eqb s.format 2 h₂, ne_eqb s.format 5 h₅, ne_eqb s.format 6 h₆)
 
@@ -107,26 +105,26 @@ got_made q decoding v2 w total got hx hp ho hl hq hm =
 
 -- ---- a round
 
-pub missing_made : (q : Queue) (s : Source) (w : WaveBuffer) (total : ℕ) (act : Act) {g : Got} {ended : Queue} → g ≡ Missing → ended ≡ after_missing q
+pub missing_made : (q : Queue) (s : Source) (w : WaveBuffer) (total : ℕ) (act : Act) {g : Option ℕ} {ended : Queue} → g ≡ None → ended ≡ after_missing q
     → record { queue = ended; got = 0; act = act; going = true } ≡ round_of q s w total act g
 unfolding round_of
 missing_made q s w total act hg he = rw (hg, he)
 
-pub samples_made : (q : Queue) (s : Source) (w : WaveBuffer) (total : ℕ) (act : Act) {g : Got} {n : ℕ} {m : Moved} → g ≡ Samples n → m ≡ after_got q s.decoding s.buffers_v2 w total n
+pub samples_made : (q : Queue) (s : Source) (w : WaveBuffer) (total : ℕ) (act : Act) {g : Option ℕ} {n : ℕ} {m : Moved} → g ≡ Some n → m ≡ after_got q s.decoding s.buffers_v2 w total n
     → record { queue = m.queue; got = n; act = act; going = m.going } ≡ round_of q s w total act g
 unfolding round_of
 samples_made q s w total act hg hm = rw (hg, hm)
 
-pub round_made : (q : Queue) (s : Source) (left : ℕ) {w : WaveBuffer} {renews looped : Bool} {start end total room want pos : ℕ}
-    {tried : Attempt} → buffer_at q q.index ≡ w → renews ≡ renews_of s w q.offset
+pub round_made : (q : Queue) (s : Source) (left : ℕ) {w : WaveBuffer} {context : Option ℕ} {looped : Bool}
+    {start end total room want pos : ℕ} {tried : Attempt} → buffer_at q q.index ≡ w → context ≡ context_read s w q.offset
     → looped ≡ in_loop s.buffers_v2 w q.loops → start ≡ cond looped w.loop_start w.start
     → end ≡ cond looped w.loop_end w.end → total ≡ end - start → room ≡ total - q.offset → want ≡ min left room
     → pos ≡ (start + q.offset) % 2 ^ 32 → tried ≡ decode_plan s w (sample pos) want
-    → round_of q s w total (record { renews = renews; context = w.context; decode = tried.decode }) tried.got ≡ round_plan q s left
+    → round_of q s w total (record { context = context; decode = tried.decode }) tried.got ≡ round_plan q s left
 unfolding round_plan
 round_made q s left hb hr hl hs he ht ho hw hp hd =
     let b = sym hb in
-    let r' = hr ∙ (λ j. renews_of s (b j) q.offset) in
+    let r' = hr ∙ (λ j. context_read s (b j) q.offset) in
     let l' = hl ∙ (λ j. in_loop s.buffers_v2 (b j) q.loops) in
     let s' = hs ∙ (λ j. cond (l' j) (b j).loop_start (b j).start) in
     let e' = he ∙ (λ j. cond (l' j) (b j).loop_end (b j).end) in
@@ -134,4 +132,4 @@ round_made q s left hb hr hl hs he ht ho hw hp hd =
     let w' = hw ∙ (λ j. min left ((ho ∙ (λ k. t' k - q.offset)) j)) in
     let p' = hp ∙ (λ j. (s' j + q.offset) % 2 ^ 32) in
     let d' = hd ∙ (λ j. decode_plan s (b j) (sample (p' j)) (w' j)) in
-    λ i. round_of q s (b i) (t' i) (record { renews = r' i; context = (b i).context; decode = (d' i).decode }) (d' i).got
+    λ i. round_of q s (b i) (t' i) (record { context = r' i; decode = (d' i).decode }) (d' i).got

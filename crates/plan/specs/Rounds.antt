@@ -1,5 +1,6 @@
 -- The rounds of a fetch (mixer.rs `fetch`), as far as they move the position: at most 64, each of the buffer that plays.
-use Rattle.std.specs.Prelude.{ℕ, zero, suc, ◌+◌, ◌-◌, ◌%◌, ◌^◌, min, Bool, true, false, cond, not, ◌&&◌, ◌||◌, List, [], ◌∷◌, ◌++◌, ◌==◌, nat_le, nat_lt, slice_index_or}
+use Rattle.std.specs.Prelude.{ℕ, zero, suc, ◌+◌, ◌-◌, ◌%◌, ◌^◌, min, Bool, true, false, cond, not, ◌&&◌, ◌||◌, List, [], ◌∷◌, ◌++◌, ◌==◌, nat_le, nat_lt, slice_index_or, Option, Some, None}
+use Rattle.std.specs.Bool.{then_some}
 use Rattle.ranges.specs.Ranges.{readable_of}
 use Rattle.voice.specs.Queue.{buffer_at, queue_at, end_buffer}
 use Rattle.voice.specs.declared.wave.WaveBuffer.{WaveBuffer}
@@ -7,8 +8,6 @@ use Rattle.voice.specs.declared.queue.Queue.{Queue}
 use Rattle.plan.specs.Attempt.{sample, decode_plan}
 use Rattle.plan.specs.Source.{Source}
 use Rattle.plan.specs.declared.Act.{Act}
-use Rattle.plan.specs.declared.attempt.Got.{Got}
-use Rattle.plan.specs.declared.attempt.Got.TheVariants.{Missing, Samples}
 use Rattle.plan.specs.declared.after.Next.{Next}
 use Rattle.plan.specs.declared.rounds.Step.{Step}
 use Rattle.plan.specs.declared.rounds.Plan.{Plan}
@@ -20,6 +19,10 @@ is_positive x = not (x == 0) && nat_lt x 0x80000000
 -- a buffer that begins gets its ADPCM context from memory
 unfoldable pub renews_of : Source → WaveBuffer → ℕ → Bool
 renews_of s w offset = offset == 0 && (s.format == 6 && (not (w.context == 0) && readable_of s.ranges w.context 6))
+
+-- where it is read from
+abbrev pub context_read : Source → WaveBuffer → ℕ → Option ℕ
+context_read s w offset = then_some (renews_of s w offset) w.context
 
 -- a buffer that has looped plays its loop span, from revision 8 on
 unfoldable pub in_loop : Bool → WaveBuffer → ℕ → Bool
@@ -91,10 +94,10 @@ pub record Round : Type 0 where
   pub going : Bool
 
 -- what a decode makes of a round
-unfoldable pub round_of : Queue → Source → WaveBuffer → ℕ → Act → Got → Round
+unfoldable pub round_of : Queue → Source → WaveBuffer → ℕ → Act → Option ℕ → Round
 unfolding after_missing after_got
-round_of q s w total act Missing = record { queue = after_missing q; got = 0; act = act; going = true }
-round_of q s w total act (Samples n) =
+round_of q s w total act None = record { queue = after_missing q; got = 0; act = act; going = true }
+round_of q s w total act (Some n) =
     let moved = after_got q s.decoding s.buffers_v2 w total n in
     record { queue = moved.queue; got = n; act = act; going = moved.going }
 
@@ -109,7 +112,7 @@ round_plan q s left =
     let total = end - start in
     let want = min left (total - q.offset) in
     let tried = decode_plan s w (sample ((start + q.offset) % 2 ^ 32)) want in
-    round_of q s w total (record { renews = renews_of s w q.offset; context = w.context; decode = tried.decode }) tried.got
+    round_of q s w total (record { context = context_read s w q.offset; decode = tried.decode }) tried.got
 
 -- a round begins: samples are wanted, and the buffer that plays is valid
 unfoldable pub more : Bool → Queue → ℕ → ℕ → Bool

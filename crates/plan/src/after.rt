@@ -61,7 +61,7 @@ fn after_loop(mut p: Spot, s: Source, wb: WaveBuffer, got: u32) -> Spot
     ensures { (b : List WaveBuffer) → slice_index_or b p.index no_buffer ≡ wb
         → queue_at b result ≡ after_loop (queue_at b p) s.decoding s.buffers_v2 wb got }
 {
-    let loops = std::num::wrapping_add_u32(p.loops, 1);
+    let loops = p.loops.wrapping_add(1);
     let over = loops_over(s.buffers_v2, wb.loop_count, loops, got);
     p.offset = 0;
     p.loops = loops;
@@ -76,10 +76,7 @@ fn after_loop(mut p: Spot, s: Source, wb: WaveBuffer, got: u32) -> Spot
 fn resets(decoding: u32, got: u32) -> bool
     ensures { result ≡ resets_played decoding got }
 {
-    if got == 0 {
-        return false;
-    }
-    decoding % 2 != 0
+    got != 0 && decoding % 2 != 0
 }
 
 // What the samples of a round, of a span of total, make of the spot.
@@ -88,8 +85,8 @@ pub fn after_got(mut p: Spot, s: Source, wb: WaveBuffer, total: u32, got: u32) -
     ensures { (b : List WaveBuffer) → slice_index_or b p.index no_buffer ≡ wb
         → moved_at b result ≡ after_got (queue_at b p) s.decoding s.buffers_v2 wb total got }
 {
-    p.offset = std::num::wrapping_add_u32(p.offset, got);
-    p.played = std::num::wrapping_add_u64(p.played, got as u64);
+    p.offset = p.offset.wrapping_add(got);
+    p.played = p.played.wrapping_add(got as u64);
     if span_over(p.offset, total, got) {
         if wb.looping {
             return Next {
@@ -112,8 +109,5 @@ pub fn after_got(mut p: Spot, s: Source, wb: WaveBuffer, total: u32, got: u32) -
 fn span_over(offset: u32, total: u32, got: u32) -> bool
     ensures { result ≡ span_over offset total got }
 {
-    if total <= offset {
-        return true;
-    }
-    got == 0
+    total <= offset || got == 0
 }

@@ -7,16 +7,10 @@ use crate::{Decode, Source};
 use adpcm::{Byte, Sample};
 use voice::WaveBuffer;
 
-// The Rust's Option<usize>: a decode that is missing ends the buffer.
-#[derive(Clone, Copy)]
-pub enum Got {
-    Missing,
-    Samples(u32),
-}
-
+// How many samples a decode gives, and what it is; one that gives none is missing, and ends the buffer.
 #[derive(Clone, Copy)]
 pub struct Attempt {
-    pub got: Got,
+    pub got: Option<u32>,
     pub decode: Decode,
 }
 
@@ -25,7 +19,7 @@ fn missing() -> Attempt
     ensures { result ≡ no_samples }
 {
     Attempt {
-        got: Got::Missing,
+        got: None,
         decode: Decode::Nothing,
     }
 }
@@ -50,10 +44,10 @@ fn plan_pcm(
     if n == 0 {
         return missing();
     }
-    let addr = std::num::wrapping_add_u64(wb.addr, start.0 * frame);
+    let addr = wb.addr.wrapping_add(start.0 * frame);
     if ranges::readable(ranges, addr, n as u64 * frame) {
         return Attempt {
-            got: Got::Samples(n),
+            got: Some(n),
             decode: Decode::Pcm(width, addr, n),
         };
     }
@@ -64,19 +58,7 @@ fn plan_pcm(
 fn frames_left(start: Sample, end: Sample, want: u32) -> u32
     ensures { result ≡ min want (end.0 - start.0) }
 {
-    let left = end.past(start);
-    if left < want as u64 {
-        left as u32
-    } else {
-        want
-    }
-}
-
-// The lesser of two counts of bytes.
-fn least(a: u64, b: u64) -> u64
-    ensures { result ≡ min a b }
-{
-    if b < a { b } else { a }
+    end.past(start).min(want as u64) as u32
 }
 
 // ADPCM: the bytes from the one that holds the start's nibble to the end of the wanted samples or of the buffer.
@@ -86,23 +68,16 @@ fn plan_adpcm(s: Source, ranges: &[u64], wb: WaveBuffer, start: Sample, want: u3
 {
     let first = adpcm::adpcm_nibble_byte(start);
     let wanted = adpcm::adpcm_size(start.plus(want as u64)).past(first);
-    let bytes = least(wanted, Byte(wb.size).past(first));
+    let bytes = wanted.min(Byte(wb.size).past(first));
     if bytes == 0 {
         return missing();
     }
-    let addr = std::num::wrapping_add_u64(wb.addr, first.0);
+    let addr = wb.addr.wrapping_add(first.0);
     if ranges::readable(ranges, addr, bytes) {
         let n = adpcm::adpcm_count(bytes, start, want);
-        let decode = Decode::Adpcm(want, addr, bytes, start);
-        if n == 0 {
-            return Attempt {
-                got: Got::Missing,
-                decode,
-            };
-        }
         return Attempt {
-            got: Got::Samples(n),
-            decode,
+            got: (n != 0).then_some(n),
+            decode: Decode::Adpcm(want, addr, bytes, start),
         };
     }
     missing()
@@ -116,21 +91,17 @@ pub fn plan_decode(s: Source, ranges: &[u64], wb: WaveBuffer, start: Sample, wan
 {
     if want == 0 {
         return Attempt {
-            got: Got::Samples(0),
+            got: Some(0),
             decode: Decode::Nothing,
         };
     }
-    if s.format == voice::PCM_INT16 {
-        return plan_pcm(2, s, ranges, wb, start, want);
-    }
-    if s.format == voice::PCM_FLOAT {
-        return plan_pcm(4, s, ranges, wb, start, want);
-    }
-    if s.format == voice::ADPCM {
-        return plan_adpcm(s, ranges, wb, start, want);
-    }
-    Attempt {
-        got: Got::Samples(want),
-        decode: Decode::Silence(want),
+    match s.format {
+        voice::PCM_INT16 => plan_pcm(2, s, ranges, wb, start, want),
+        voice::PCM_FLOAT => plan_pcm(4, s, ranges, wb, start, want),
+        voice::ADPCM => plan_adpcm(s, ranges, wb, start, want),
+        _ => Attempt {
+            got: Some(want),
+            decode: Decode::Silence(want),
+        },
     }
 }

@@ -34,10 +34,9 @@ pub enum Decode {
     Silence(u32),
 }
 
-// One round: whether an ADPCM context is read first, and where; then a decode.
+// One round: an ADPCM context, where one is read first, by its address; then a decode.
 #[derive(Clone, Copy)]
 pub struct Act {
-    pub renews: bool,
-    pub context: u64,
+    pub context: Option<u64>,
     pub decode: Decode,
 }

@@ -1,12 +1,11 @@
 // The rounds of a fetch: at most 64, each of the buffer that plays.
-ghost use Rattle.std.specs.Prelude.{◌≡◌, ◌-◌, ◌^◌, ◌<◌, ◌≤◌, min, List, if◌then◌else◌, slice_index_or};
+ghost use Rattle.std.specs.Prelude.{◌≡◌, ◌-◌, ◌^◌, ◌<◌, ◌≤◌, min, List, slice_index_or};
 ghost use Rattle.voice.specs.declared.wave.WaveBuffer.{WaveBuffer};
 ghost use Rattle.voice.specs.Queue.{no_buffer, queue_at};
 ghost use Rattle.plan.specs.Source.{over};
-ghost use Rattle.plan.specs.Rounds.{is_positive, renews_of, in_loop, round_plan, more, has_table, plan_of, round_at, without_acts};
+ghost use Rattle.plan.specs.Rounds.{is_positive, context_read, in_loop, round_plan, more, has_table, plan_of, round_at, without_acts};
 
 use crate::after::{after_got, after_missing};
-use crate::attempt::Got;
 use crate::{Act, Source};
 use adpcm::Sample;
 use voice::{Queue, Spot, WaveBuffer};
@@ -29,20 +28,20 @@ pub struct Step {
     pub going: bool,
 }
 
-// Whether a buffer that begins gets its ADPCM context from memory.
-fn context_read(s: Source, ranges: &[u64], wb: WaveBuffer, offset: u32) -> bool
-    ensures { result ≡ renews_of (over s ranges.now) wb offset }
+// Where a buffer that begins gets its ADPCM context from memory.
+fn context_read(s: Source, ranges: &[u64], wb: WaveBuffer, offset: u32) -> Option<u64>
+    ensures { result ≡ context_read (over s ranges.now) wb offset }
 {
     if offset != 0 {
-        return false;
+        return None;
     }
     if s.format != voice::ADPCM {
-        return false;
+        return None;
     }
     if wb.context == 0 {
-        return false;
+        return None;
     }
-    ranges::readable(ranges, wb.context, 6)
+    ranges::readable(ranges, wb.context, 6).then_some(wb.context)
 }
 
 // Whether a buffer that has looped plays its loop span: from revision 8 on, if it has one.
@@ -68,29 +67,7 @@ fn in_loop(buffers_v2: bool, wb: WaveBuffer, loops: u32) -> bool
 fn positive(x: u32) -> bool
     ensures { result ≡ is_positive x }
 {
-    if x == 0 {
-        return false;
-    }
-    x < 0x8000_0000
-}
-
-// a - b, or 0 where b is more.
-fn saturating_sub(a: u32, b: u32) -> u32
-    ensures { result ≡ a - b }
-{
-    if b < a { a - b } else { 0 }
-}
-
-fn least(a: u32, b: u32) -> u32
-    ensures { result ≡ min a b }
-{
-    if a < b { a } else { b }
-}
-
-fn either(test: bool, a: u32, b: u32) -> u32
-    ensures { result ≡ (if test then a else b) }
-{
-    if test { a } else { b }
+    x != 0 && x < 0x8000_0000
 }
 
 // One round, of at most left samples, of wb, the buffer that plays.
@@ -101,33 +78,32 @@ pub fn plan_round(wb: WaveBuffer, p: Spot, s: Source, ranges: &[u64], left: u32)
     ensures { (b : List WaveBuffer) → slice_index_or b p.index no_buffer ≡ wb
         → round_at b result ≡ round_plan (queue_at b p) (over s ranges.now) left }
 {
-    let renews = context_read(s, ranges, wb, p.offset);
+    let context = context_read(s, ranges, wb, p.offset);
     let looped = in_loop(s.buffers_v2, wb, p.loops);
-    let start = either(looped, wb.loop_start, wb.start);
-    let end = either(looped, wb.loop_end, wb.end);
-    let total = saturating_sub(end, start);
-    let want = least(left, saturating_sub(total, p.offset));
-    let pos = std::num::wrapping_add_u32(start, p.offset) as u64;
-    let tried = crate::plan_decode(s, ranges, wb, Sample(pos), want);
-    let decode = tried.decode;
-    let act = Act {
-        renews,
-        context: wb.context,
-        decode,
+    let (start, end) = if looped {
+        (wb.loop_start, wb.loop_end)
+    } else {
+        (wb.start, wb.end)
     };
-    let result = tried.got;
-    match result {
-        Got::Missing => Step {
+    let total = end.saturating_sub(start);
+    let want = left.min(total.saturating_sub(p.offset));
+    let pos = start.wrapping_add(p.offset) as u64;
+    let tried = crate::plan_decode(s, ranges, wb, Sample(pos), want);
+    let act = Act {
+        context,
+        decode: tried.decode,
+    };
+    match tried.got {
+        None => Step {
             spot: after_missing(p, wb),
             got: 0,
             act,
             going: true,
         },
-        Got::Samples(n) => {
+        Some(n) => {
             let moved = after_got(p, s, wb, total, n);
-            let spot = moved.spot;
             Step {
-                spot,
+                spot: moved.spot,
                 got: n,
                 act,
                 going: moved.going,
@@ -147,8 +123,7 @@ pub fn begins(p: Spot, going: bool, done: u32, count: u32) -> bool
     if count <= done {
         return false;
     }
-    let at = p.index as usize;
-    p.valid[at]
+    p.valid[p.index as usize]
 }
 
 // The plan of a fetch of count samples. Its acts are not kept: `sound::fetch_channel` goes through the rounds again.
@@ -164,14 +139,12 @@ pub fn plan_fetch(q: Queue, s: Source, ranges: &[u64], count: u32) -> Plan
     let mut rounds: u32 = 0;
     let mut going = begins(spot, true, done, count);
     while rounds < 64 && going {
-        let at = spot.index as usize;
-        let wb = buffers[at];
+        let wb = buffers[spot.index as usize];
         let r = plan_round(wb, spot, s, ranges, count - done);
-        let next = r.spot;
-        spot = next;
+        spot = r.spot;
         done += r.got;
         rounds += 1;
-        going = begins(next, r.going, done, count);
+        going = begins(spot, r.going, done, count);
     }
     Plan {
         queue: voice::queue_at(buffers, spot),
@@ -185,8 +158,5 @@ pub fn plan_fetch(q: Queue, s: Source, ranges: &[u64], count: u32) -> Plan
 fn table_read(s: Source, ranges: &[u64]) -> bool
     ensures { result ≡ has_table (over s ranges.now) }
 {
-    if s.format != voice::ADPCM {
-        return false;
-    }
-    ranges::readable(ranges, s.data_source, 32)
+    s.format == voice::ADPCM && ranges::readable(ranges, s.data_source, 32)
 }

@@ -11,6 +11,7 @@ ghost use Rattle.sound.specs.Channel.{Ready};
 ghost use Rattle.playing.specs.Playing.{material, three_of, tail_of, out_step, sound_step, played_out, played_sound};
 
 use adpcm::AdpcmContext;
+use memory::SampleMemory;
 use plan::Source;
 use voice::{History, Queue, Sound};
 
@@ -19,31 +20,26 @@ fn three_of(h: History, c: u32) -> [f32; 3]
     requires { c < 6 }
     ensures { result ≡ three_of c h.samples }
 {
-    let samples = h.samples;
     let mut three = [0.0f32; 3];
-    rows::copy_out_f32(&mut three, &samples, (c * 3) as usize);
+    rows::copy_out(&mut three, &h.samples, (c * 3) as usize);
     three
 }
 
 // The last three of a row, as the history of channel c.
-fn with_tail(h: History, c: u32, row: &[f32]) -> History
+fn with_tail(mut h: History, c: u32, row: &[f32]) -> History
     requires { (c < 6) × (3 ≤ length row.now) }
     ensures { result.samples ≡ put h.samples (c * 3) (tail_of (length row.now - 3) row.now) }
 {
-    let mut samples = h.samples;
     let last = row.len() - 3;
-    rows::copy_in_f32(&mut samples, (c * 3) as usize, &row[last..]);
-    History { samples }
+    rows::copy_in(&mut h.samples, (c * 3) as usize, &row[last..]);
+    h
 }
 
 // The ADPCM context that is kept: channel 0's.
 fn context_after(c: u32, kept: AdpcmContext, made: AdpcmContext) -> AdpcmContext
     ensures { result ≡ cond (eqb c 0) made kept }
 {
-    if c == 0 {
-        return made;
-    }
-    kept
+    if c == 0 { made } else { kept }
 }
 
 // What is heard of channel c's row, into row c of out.
@@ -60,8 +56,7 @@ fn hear(row: &[f32], ratio: f32, fraction: f32, n: u32, c: u32, out: &mut [f32])
 fn play_channel(
     q: Queue,
     s: Source,
-    ranges: &[u64],
-    memory: &[u8],
+    memory: &SampleMemory,
     coefficients: &[i16; 16],
     before: Sound,
     kept: Sound,
@@ -72,25 +67,23 @@ fn play_channel(
     src: &mut [f32],
     out: &mut [f32],
 ) -> Sound
-    requires ready { Ready q (over s ranges.now) memory.now src.old }
-    requires coefficients_value { coefficients.now ≡ table_of (has_table (over s ranges.now)) (over s ranges.now) memory.now }
+    requires ready { Ready q (over s memory.now.ranges.now) memory.now.bytes.now src.old }
+    requires coefficients_value { coefficients.now ≡ table_of (has_table (over s memory.now.ranges.now))
+        (over s memory.now.ranges.now) memory.now.bytes.now }
     requires c_lt_channels { (c < s.channels) × (n ≤ 256) × (c * n + n ≤ length out.old) }
-    ensures value { result ≡ sound_step (material q (over s ranges.now)
-        memory.now (length src.old - 3) before ratio fraction n) c kept }
+    ensures value { result ≡ sound_step (material q (over s memory.now.ranges.now)
+        memory.now.bytes.now (length src.old - 3) before ratio fraction n) c kept }
     ensures out_after { out.new
-        ≡ out_step (material q (over s ranges.now)
-        memory.now (length src.old - 3) before ratio fraction n) c out.old }
+        ≡ out_step (material q (over s memory.now.ranges.now)
+        memory.now.bytes.now (length src.old - 3) before ratio fraction n) c out.old }
 {
-    let history = before.history;
-    let adpcm = before.adpcm;
-    let three = three_of(history, c);
-    let made = sound::fetch_channel(q, s, ranges, memory, coefficients, adpcm, three, c, src);
+    let three = three_of(before.history, c);
+    let made = sound::fetch_channel(q, s, memory, coefficients, before.adpcm, three, c, src);
     hear(src, ratio, fraction, n, c, out);
-    let old = kept.history;
-    let history = with_tail(old, c, src);
-    let first = kept.adpcm;
-    let adpcm = context_after(c, first, made);
-    Sound { adpcm, history }
+    Sound {
+        adpcm: context_after(c, kept.adpcm, made),
+        history: with_tail(kept.history, c, src),
+    }
 }
 
 // Every channel of a voice: what is heard into out, one row of n behind the other. Gives the sound that the voice keeps.
@@ -117,15 +110,17 @@ pub fn play_channels(
         ≡ played_out (material q (over s ranges.now)
         memory.now (length src.old - 3) sound ratio fraction n) out.old }
 {
-    let coefficients = sound::coefficients(ranges, memory, s, table);
+    let sample_memory = SampleMemory {
+        ranges,
+        bytes: memory,
+    };
+    let coefficients = sound::coefficients(&sample_memory, s, table);
     let mut kept = sound;
-    let mut c: u32 = 0;
-    while c < s.channels {
+    for c in 0..s.channels {
         kept = play_channel(
             q,
             s,
-            ranges,
-            memory,
+            &sample_memory,
             &coefficients,
             sound,
             kept,
@@ -136,7 +131,6 @@ pub fn play_channels(
             src,
             out,
         );
-        c += 1;
     }
     kept
 }

@@ -1,7 +1,7 @@
 // Exports of inner functions for the drivers of compare/, which hold them to the oracle. No part of the interface for titles.
 #![tactic(auto)]
 
-use adpcm::{AdpcmAnswer, AdpcmContext, Sample};
+use adpcm::{AdpcmContext, Sample};
 
 #[repr(C)]
 #[derive(Clone, Copy)]
@@ -48,15 +48,14 @@ pub extern "C" fn probe_decode_adpcm(
         history1,
     };
     match adpcm::decode_adpcm_checked(data, Sample(start), count, coefficients, ctx, out) {
-        AdpcmAnswer::Done(d) => ProbeDecoded {
+        Ok(d) => ProbeDecoded {
             number: 0,
             done: d.done as u64,
             pred_scale: d.context.pred_scale,
             history0: d.context.history0,
             history1: d.context.history1,
         },
-        AdpcmAnswer::FarStart => refused(8),
-        AdpcmAnswer::ShortOutput => refused(9),
+        Err(e) => refused(e.number()),
     }
 }
 
@@ -88,13 +87,7 @@ pub extern "C" fn probe_resample(
     ratio: f32,
     fraction: f32,
 ) -> f32 {
-    if input.len() < 3 {
-        return -1.0;
-    }
-    if input.len() > 0xffff_ffff {
-        return -1.0;
-    }
-    if out.len() < count as usize {
+    if input.len() < 3 || input.len() > 0xffff_ffff || out.len() < count as usize {
         return -1.0;
     }
     resample::resample(input, out, count, ratio, fraction)

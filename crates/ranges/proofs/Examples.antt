@@ -1,5 +1,5 @@
 -- Ranges, computed: which reads succeed, where an address lies in the slice, and the answers to questions 13 and 5. Assumes nothing.
-use Rattle.std.proofs.Common.{◌≡◌, ℕ, ◌+◌, ◌-◌, ◌^◌, ◌<◌, true, false, leb, List, [], ◌∷◌, replicate, refl, arith}
+use Rattle.std.proofs.Common.{◌≡◌, ℕ, ◌+◌, ◌-◌, ◌^◌, ◌<◌, true, false, leb, Some, None, List, [], ◌∷◌, replicate, refl, arith}
 use mathlib.Core.Bool.{and-false}
 use borrow.Author.Tests.{lt-leb}
 use Rattle.ranges.specs.Ranges.{Range, range, ranges_of, holds, next_at, next_left, left_of, readable_of}
@@ -44,10 +44,10 @@ of_none = (refl, refl, refl, refl)
 
 -- ---- where an address lies in the slice, and how many bytes its range has from there on
 
-stretches : (stretch_of (ranges_of touching) 102 ≡ stretch 2 2)
-    × (stretch_of (ranges_of touching) 104 ≡ stretch 8 4)
-    × (stretch_of (ranges_of around_none) 104 ≡ stretch 8 4)
-    × (stretch_of (ranges_of apart) 104 ≡ stretch 0 0)
+stretches : (stretch_of (ranges_of touching) 102 ≡ Some (stretch 2 2))
+    × (stretch_of (ranges_of touching) 104 ≡ Some (stretch 8 4))
+    × (stretch_of (ranges_of around_none) 104 ≡ Some (stretch 8 4))
+    × (stretch_of (ranges_of apart) 104 ≡ None)
 unfolding ranges_of stretch_of holds
 stretches = (refl, refl, refl, refl)
 

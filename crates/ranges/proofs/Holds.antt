@@ -1,5 +1,5 @@
 -- Whether a range has an address, from where the address lies, and the other way. Assumes nothing.
-use Rattle.std.proofs.Common.{◌≡◌, ℕ, ◌-◌, ◌<◌, ◌≤◌, true, false, ◌&&◌, ltb, leb, sym, ltb-true, le-ltb, lt-ltb, le-leb, leb-true}
+use Rattle.std.proofs.Common.{◌≡◌, ℕ, ◌-◌, ◌<◌, ◌≤◌, true, false, ltb, leb, ltb-true, le-ltb, lt-ltb, le-leb, leb-true}
 use mathlib.Core.Bool.{and-eq-true_iff}
 use borrow.Author.Tests.{lt-leb}
 use Rattle.ranges.specs.Ranges.{holds}
@@ -16,11 +16,6 @@ module _ (base size x : ℕ) where
   pub holds_past : base ≤ x → size ≤ x - base → holds base size x ≡ false
   unfolding holds
   holds_past l h = rw (le-leb base x l, le-ltb (x - base) size h)
-
-  -- from the base on, by one test
-  pub holds_from : base ≤ x → ltb (x - base) size ≡ holds base size x
-  unfolding holds
-  holds_from l = λ i. sym (le-leb base x l) i && ltb (x - base) size
 
   pub held_where : holds base size x ≡ true → (base ≤ x) × (x - base < size)
   unfolding holds

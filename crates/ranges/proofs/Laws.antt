@@ -1,8 +1,7 @@
 -- What ranges leave of a read, and whether it succeeds. Assumes nothing.
-use Rattle.std.proofs.Common.{◌≡◌, ℕ, ◌+◌, ◌-◌, ◌%◌, ◌^◌, ◌<◌, ◌≤◌, true, false, not, eqb, leb, ◌⊎◌, List, [], ◌∷◌, refl, ap, ◌∙◌, inl, inr, ⊎_elim, arith, eq-eqb, eqb-true, leb-false, leb-true}
+use Rattle.std.proofs.Common.{◌≡◌, ℕ, ◌+◌, ◌-◌, ◌%◌, ◌^◌, ◌≤◌, true, false, eqb, List, [], ◌∷◌, refl, ap, ◌∙◌, ⊎_elim, arith, eq-eqb}
 use native.Mathlib.Nat.{zero-sub}
-use mathlib.Core.Bool.{and-eq-true_iff}
-use Rattle.ranges.specs.Ranges.{Range, holds, room_of, has, room_in, end_of, next_at, next_left, left_of, readable_of, goes_on}
+use Rattle.ranges.specs.Ranges.{Range, holds, room_of, has, room_in, end_of, next_at, next_left, left_of, readable_of}
 use Rattle.ranges.proofs.Tests.{true_or_false}
 
 -- ---- what one range leaves: nothing is taken where it does not have the place
@@ -58,15 +57,3 @@ left_none (r ∷ rs) at =
 pub readable_none : (rs : List Range) (addr : ℕ) → readable_of rs addr 0 ≡ true
 unfolding readable_of
 readable_none rs addr = eq-eqb (left_of rs addr 0) 0 (left_none rs addr)
-
--- ---- when a walk of a read goes on, and when it ends
-
-pub goes_on_lem : (left numbers : ℕ) → goes_on left numbers ≡ true → 3 ≤ numbers
-unfolding goes_on
-goes_on_lem left numbers h = leb-true 3 numbers ((and-eq-true_iff (not (eqb left 0)) (leb 3 numbers)).0 h).1
-
-pub goes_stop : (left numbers : ℕ) → goes_on left numbers ≡ false → (left ≡ 0) ⊎ (numbers < 3)
-unfolding goes_on
-goes_stop left numbers h =
-    ⊎_elim (λ (e : eqb left 0 ≡ true). inl (eqb-true left 0 e)) (λ (e : eqb left 0 ≡ false). inr (leb-false 3 numbers (rw e at h)))
-    (true_or_false (eqb left 0))

@@ -1,52 +1,40 @@
--- A walk through the numbers of ranges, three at a turn: what holds of the ranges that are left. Assumes nothing.
-use Rattle.std.proofs.Common.{◌≡◌, ℕ, ◌+◌, ◌-◌, ◌<◌, ◌≤◌, List, [], ◌∷◌, length, get_or, drop, refl, ap, ◌∙◌, subst, arith, length-drop, get_or-drop, drop-drop}
-use Rattle.ranges.specs.Ranges.{Range, range, ranges_of}
+-- A walk through the ranges as they are lent, three numbers each: what holds of the ranges that are left. Assumes nothing.
+use Rattle.std.proofs.Common.{◌≡◌, ℕ, ◌+◌, ◌/◌, ◌<◌, ◌≤◌, zero, suc, List, [], ◌∷◌, map, length, get_or, drop, refl, ap, sym, subst, arith}
+use Rattle.std.proofs.lemmas.List.{at_drop_more, at_drop_all}
+use Rattle.std.specs.Simd.{first_chunks}
+use Rattle.ranges.specs.Ranges.{Range, range_from, ranges_of}
 
 -- ---- numbers as ranges
 
--- fewer than three are no range
-ranges_none : (xs : List ℕ) → length xs < 3 → ranges_of xs ≡ []
+pub ranges_chunks : (k : ℕ) (xs : List ℕ) → k ≡ length xs / 3 → map range_from (first_chunks 3 k xs) ≡ ranges_of xs
 unfolding ranges_of
-ranges_none [] h = refl
-ranges_none (a ∷ []) h = refl
-ranges_none (a ∷ b ∷ []) h = refl
-ranges_none (a ∷ b ∷ c ∷ xs) h = absurd (omega arith)
-
--- the range that three numbers from place i on are
-abbrev pub here : List ℕ → ℕ → Range
-here xs i = range (get_or xs i 0) (get_or xs (i + 1) 0) (get_or xs (i + 2) 0)
-
-ranges_first : (xs : List ℕ) → 3 ≤ length xs → ranges_of xs ≡ here xs 0 ∷ ranges_of (drop 3 xs)
-unfolding ranges_of
-ranges_first [] h = absurd (omega arith)
-ranges_first (a ∷ []) h = absurd (omega arith)
-ranges_first (a ∷ b ∷ []) h = absurd (omega arith)
-ranges_first (a ∷ b ∷ c ∷ xs) h = refl
-
-ranges_next : (xs : List ℕ) (i : ℕ) → i + 3 ≤ length xs → ranges_of (drop i xs) ≡ here xs i ∷ ranges_of (drop (i + 3) xs)
-ranges_next xs i h =
-    let first : get_or (drop i xs) 0 0 ≡ get_or xs i 0 = get_or-drop i xs 0 0 ∙ ap (λ (k : ℕ). get_or xs k 0) (omega arith) in
-    ranges_first (drop i xs) (simp length-drop (omega arith))
-    ∙ (λ j. range (first j) (get_or-drop i xs 1 0 j) (get_or-drop i xs 2 0 j) ∷ ranges_of (drop-drop 3 i xs j))
+ranges_chunks zero [] h = refl
+ranges_chunks zero (a ∷ []) h = refl
+ranges_chunks zero (a ∷ b ∷ []) h = refl
+ranges_chunks zero (a ∷ b ∷ c ∷ xs) h = absurd (omega (arith, h))
+ranges_chunks (suc k) [] h = absurd (omega (arith, h))
+ranges_chunks (suc k) (a ∷ []) h = absurd (omega (arith, h))
+ranges_chunks (suc k) (a ∷ b ∷ []) h = absurd (omega (arith, h))
+ranges_chunks (suc k) (a ∷ b ∷ c ∷ xs) h = ap (◌∷◌ (range_from (a ∷ b ∷ c ∷ []))) (ranges_chunks k xs (omega (arith, h)))
 
 -- ---- the walk: P holds of the ranges from place i on
 
-pub record Walk (P : List Range → Type 0) (xs : List ℕ) (i : ℕ) : Type 0 where
-  pub inside : i ≤ length xs
-  pub rest : P (ranges_of (drop i xs))
+pub record Walk (P : List Range → Type 0) (ts : List (List ℕ)) (i : ℕ) : Type 0 where
+  pub rest : P (map range_from (drop i ts))
 
-pub walk_begin : {P : List Range → Type 0} {xs : List ℕ} → P (ranges_of xs) → Walk P xs 0
-walk_begin p = record { inside = omega arith; rest = p }
+pub walk_begin : {P : List Range → Type 0} {ts : List (List ℕ)} {rs : List Range} → map range_from ts ≡ rs → P rs → Walk P ts 0
+walk_begin {P} e p = record { rest = subst P (sym e) p }
 
-module _ {P : List Range → Type 0} {xs : List ℕ} {i : ℕ} (w : Walk P xs i) where
-  -- where three numbers are left, a range comes
-  pub walk_here : 3 ≤ length xs - i → P (here xs i ∷ ranges_of (drop (i + 3) xs))
-  walk_here h = subst P (ranges_next xs i (omega (arith, w.inside))) w.rest
+module _ {P : List Range → Type 0} {ts : List (List ℕ)} {i : ℕ} (w : Walk P ts i) where
+  -- where one is left, it comes
+  pub walk_here : i < length ts → P (range_from (get_or ts i []) ∷ map range_from (drop (i + 1) ts))
+  walk_here h = subst (λ (l : List (List ℕ)). P (map range_from l)) (at_drop_more (λ l. l) ts i [] h) w.rest
 
   -- it is passed: Q holds of those after it
-  pub walk_more : {Q : List Range → Type 0} → 3 ≤ length xs - i → ((rs : List Range) → P (here xs i ∷ rs) → Q rs) → Walk Q xs (i + 3)
-  walk_more h f = record { inside = omega (arith, w.inside); rest = f (ranges_of (drop (i + 3) xs)) (walk_here h) }
+  pub walk_more : {Q : List Range → Type 0} → i < length ts → ((rs : List Range) → P (range_from (get_or ts i []) ∷ rs) → Q rs)
+      → Walk Q ts (i + 1)
+  walk_more h f = record { rest = f (map range_from (drop (i + 1) ts)) (walk_here h) }
 
-  -- where fewer are left, none comes
-  pub walk_end : length xs - i < 3 → P []
-  walk_end h = subst P (ranges_none (drop i xs) (simp length-drop h)) w.rest
+  -- where none is left, none comes
+  pub walk_end : length ts ≤ i → P []
+  walk_end h = subst (λ (l : List (List ℕ)). P (map range_from l)) (at_drop_all (λ l. l) ts i h) w.rest

@@ -1,6 +1,6 @@
 -- Sample memory in ranges: each has a base address and a part of one slice of bytes. A read goes through the ranges in turn, and each gives
 -- what it has from the place reached on. Here without a byte: how much of a read is left, and whether it succeeds.
-use Rattle.std.specs.Prelude.{ℕ, ◌+◌, ◌-◌, ◌%◌, ◌^◌, Bool, true, false, cond, not, ◌&&◌, List, [], ◌∷◌, ◌==◌, nat_le, nat_lt}
+use Rattle.std.specs.Prelude.{ℕ, ◌+◌, ◌-◌, ◌%◌, ◌^◌, Bool, true, false, cond, ◌&&◌, List, [], ◌∷◌, get_or, ◌==◌, nat_le, nat_lt}
 
 -- addresses base .. base + size - 1 are the slice's part from start on
 pub record Range : Type 0 where
@@ -10,6 +10,10 @@ pub record Range : Type 0 where
 
 abbrev pub range : ℕ → ℕ → ℕ → Range
 range base start size = record { base = base; start = start; size = size }
+
+-- three numbers as a range
+abbrev pub range_from : List ℕ → Range
+range_from t = range (get_or t 0 0) (get_or t 1 0) (get_or t 2 0)
 
 -- three numbers a range: base, start and size; one or two that are left over are no range
 unfoldable pub ranges_of : List ℕ → List Range
@@ -61,7 +65,3 @@ unfoldable pub inside_of : List Range → ℕ → Bool
 unfolding holds
 inside_of [] x = false
 inside_of (r ∷ rs) x = cond (has r x) true (inside_of rs x)
-
--- a walk through the numbers of ranges goes on: something is left of the read, and there are numbers of another range
-unfoldable pub goes_on : ℕ → ℕ → Bool
-goes_on left numbers = not (left == 0) && nat_le 3 numbers

@@ -1,5 +1,5 @@
 -- Zeros are room for a render where there are enough, the last room always is, and in each the render is the same. Assumes nothing.
-use Rattle.std.proofs.Common.{◌≡◌, ℕ, zero, suc, ◌+◌, ◌*◌, ◌<◌, ◌≤◌, List, length, take, replicate, refl, ap, subst, mul-le-mul, arith}
+use Rattle.std.proofs.Common.{◌≡◌, ℕ, zero, suc, ◌*◌, ◌<◌, ◌≤◌, List, length, take, replicate, refl, ap, subst, mul-le-mul, arith, lit≤}
 use lib.Ieee.{Float}
 use lib.ListN.{length-replicate}
 use Rattle.floats.specs.Defs.{zero32}
@@ -10,22 +10,59 @@ use Rattle.turn.specs.Render.{Render}
 use Rattle.render_turns.specs.Turns.{Playing}
 use Rattle.render.specs.Render.{render_of, rendered_on, rendered_by}
 use Rattle.render.specs.Laws.{take_replicate}
-use Rattle.render.specs.Rooms.{floats_for, Blank, Rows, room_floats, room_samples, Fits}
+use Rattle.render.specs.Rooms.{floats_for, Blank, Rows, room_floats, room_samples, Fits, Holds}
 
 -- ---- zeros, where there are enough
 
-module _ {k : ℕ} {p : Params} (h : Fits k p) where
-  pub blank_of : Blank p (replicate (room_floats k) zero32)
+module _ {p : Params} {b src out : ℕ} (h : Holds p b src out) where
+  pub blank_of : Blank p (replicate b zero32)
   blank_of = record {
-    room = omega (arith, length-replicate (room_floats k) zero32, h.floats);
-    zeros = take_replicate (floats_for p) (room_floats k) zero32 h.floats;
+    room = omega (arith, length-replicate b zero32, h.floats);
+    zeros = take_replicate (floats_for p) b zero32 h.floats;
   }
 
-  pub rows_of : (more : ℕ) → Rows p (replicate (room_samples k + more) zero32) (replicate (6 * room_samples k) zero32)
-  rows_of more = record {
-    row = omega (arith, length-replicate (room_samples k + more) zero32, h.samples);
-    heard = record { rows = omega (arith, length-replicate (6 * room_samples k) zero32, h.samples) };
+  pub rows_of : Rows p (replicate src zero32) (replicate out zero32)
+  rows_of = record {
+    row = omega (arith, length-replicate src zero32, h.row);
+    heard = record { rows = omega (arith, length-replicate out zero32, h.heard) };
   }
+
+-- the rooms: the row to play from has more samples than the desk's
+pub holds_first : {p : Params} → Fits 0 p → Holds p 256 64 96
+unfolding room_floats room_samples
+holds_first h = record {
+  floats = h.floats;
+  row = omega (arith, h.samples);
+  heard = omega (arith, h.samples);
+  few = (lit≤ tt, lit≤ tt, lit≤ tt);
+}
+
+pub holds_second : {p : Params} → Fits 1 p → Holds p 2560 516 1536
+unfolding room_floats room_samples
+holds_second h = record {
+  floats = h.floats;
+  row = omega (arith, h.samples);
+  heard = omega (arith, h.samples);
+  few = (lit≤ tt, lit≤ tt, lit≤ tt);
+}
+
+pub holds_third : {p : Params} → Fits 2 p → Holds p 6144 516 1536
+unfolding room_floats room_samples
+holds_third h = record {
+  floats = h.floats;
+  row = omega (arith, h.samples);
+  heard = omega (arith, h.samples);
+  few = (lit≤ tt, lit≤ tt, lit≤ tt);
+}
+
+pub holds_last : {p : Params} → Fits 3 p → Holds p 24576 516 1536
+unfolding room_floats room_samples
+holds_last h = record {
+  floats = h.floats;
+  row = omega (arith, h.samples);
+  heard = omega (arith, h.samples);
+  few = (lit≤ tt, lit≤ tt, lit≤ tt);
+}
 
 -- a slice that came back as long as it was lent has room for as much
 pub room_kept : {n a b : ℕ} → a ≡ b → n ≤ b → n ≤ a

@@ -33,3 +33,11 @@ room_samples (suc k) = 256
 pub record Fits (k : ℕ) (p : Params) : Type 0 where
   pub floats : floats_for p ≤ room_floats k
   pub samples : p.sample_count ≤ room_samples k
+
+-- a room of so many floats, with a row to play from and rows of what is heard, in which such a desk is rendered. None is larger than the
+-- last.
+pub record Holds (p : Params) (buffers src out : ℕ) : Type 0 where
+  pub floats : floats_for p ≤ buffers
+  pub row : p.sample_count ≤ src
+  pub heard : 6 * p.sample_count ≤ out
+  pub few : (buffers ≤ 24576) × (src ≤ 516) × (out ≤ 1536)

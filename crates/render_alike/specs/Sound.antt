@@ -1,5 +1,5 @@
 -- Two sample memories that give the same bytes to a voice's reads make the same sound of the voice. Assumes nothing.
-use Rattle.std.specs.Prelude.{◌≡◌, Bool, ℕ, ◌*◌, ℤ, Float}
+use Rattle.std.specs.Prelude.{◌≡◌, Bool, ℕ, ◌*◌, ℤ, Float, Option, Some, None}
 use Rattle.std.proofs.Math.Path.{refl, ap}
 use Rattle.std.proofs.Common.{◌∙◌}
 use Rattle.std.proofs.Math.Bool.{true, false, cond}
@@ -8,7 +8,6 @@ use mathlib.Core.List.{List, [], ◌∷◌, ◌++◌}
 use Rattle.rows.specs.Rows.{put}
 use Rattle.rows.specs.Folds.{up_to}
 use Rattle.rows.specs.Tables.{joined}
-use Rattle.memory.specs.Memory.{read_of}
 use Rattle.adpcm.specs.Context.{context_of, coefficients_of}
 use Rattle.adpcm.specs.declared.context.AdpcmContext.{AdpcmContext}
 use Rattle.resample.specs.Defs.{resampled}
@@ -18,13 +17,13 @@ use Rattle.plan.specs.Source.{Source}
 use Rattle.plan.specs.declared.Act.{Act}
 use Rattle.plan.specs.declared.Decode.{Decode}
 use Rattle.plan.specs.declared.Decode.TheVariants.{Nothing, Pcm, Adpcm, Silence}
-use Rattle.sound.specs.Sound.{Deck, table_of, pcm_of, decode_adpcm, decode_on, perform, perform_all, row_of}
+use Rattle.sound.specs.Sound.{Deck, table_of, pcm_of, decode_adpcm, decode_on, renewed_context, perform, perform_all, row_of}
 use Rattle.sound.specs.Perform.{fresh}
 use Rattle.turn.specs.Render.{Render}
 use Rattle.playing.specs.Playing.{Material, deck_of, three_of, channel_row, channel_out, tail_of, played_history, played_sound}
 use Rattle.hearing.specs.Hearing.{heard_out}
 use Rattle.voice_turn.specs.Played.{material_of}
-use Rattle.alike.specs.Reads.{Span, span, decode_reads, act_reads, acts_reads, plan_reads, ready_reads}
+use Rattle.alike.specs.Reads.{Span, span, context_reads, decode_reads, act_reads, acts_reads, plan_reads, ready_reads}
 use Rattle.alike.specs.Alike.{SameReads}
 
 -- ---- one channel
@@ -57,18 +56,18 @@ module _ (s : Source) (m m' : List ℕ) where
     decode_same (Silence n) k h = refl
 
     -- the context that an act begins with
-    context_same : (b : Bool) (at : ℕ) (x : AdpcmContext) → Same (cond b (span at 6 ∷ []) [])
-        → cond b (context_of (read_of s.ranges m at 6)) x ≡ cond b (context_of (read_of s.ranges m' at 6)) x
-    context_same false at x h = refl
-    context_same true at x h = ap context_of (h (span at 6) (Memᴰ.head refl))
+    context_same : (at : Option ℕ) (x : AdpcmContext) → Same (context_reads at)
+        → renewed_context s.ranges m at x ≡ renewed_context s.ranges m' at x
+    unfolding context_reads
+    context_same None x h = refl
+    context_same (Some at) x h = ap context_of (h (span at 6) (Memᴰ.head refl))
 
     perform_same : (a : Act) (k : Deck) → Same (act_reads s a) → perform s m table c a k ≡ perform s m' table c a k
     unfolding perform act_reads
     perform_same a k h =
-        let renewing = cond a.renews (span a.context 6 ∷ []) [] in
-        let e = context_same a.renews a.context k.adpcm (first renewing (decode_reads s a.decode) h) in
+        let e = context_same a.context k.adpcm (first (context_reads a.context) (decode_reads s a.decode) h) in
         ap (λ (x : AdpcmContext). decode_on s m table c a.decode (record { adpcm = x; out = k.out })) e
-        ∙ decode_same a.decode _ (second renewing (decode_reads s a.decode) h)
+        ∙ decode_same a.decode _ (second (context_reads a.context) (decode_reads s a.decode) h)
 
     all_same : (acts : List Act) (k : Deck) → Same (acts_reads s acts) → perform_all s m table c acts k ≡ perform_all s m' table c acts k
     unfolding perform_all acts_reads

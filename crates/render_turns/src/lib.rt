@@ -36,15 +36,12 @@ pub fn render_voices(
         (state_of words.old longs.old floats.old contexts.old history.old)
         buffers.old 0) }
 {
-    let n = p.voices as usize;
-    let mut rounds: u32 = 0;
-    let mut k = 0;
-    while k < n {
+    let mut rounds = 0;
+    for k in 0..p.voices as usize {
         let spent = voice_render::render_voice(
             p, r, ranges, memory, k, words, longs, floats, contexts, history, buffers, src, out,
         );
         rounds += spent;
-        k += 1;
     }
     rounds
 }

@@ -1,5 +1,5 @@
 -- What a call leaves, by the first question that is answered "no". Assumes nothing.
-use Rattle.std.specs.Prelude.{◌≡◌, Bool, true, false, not, List, ℕ, ◌*◌, ◌≤◌, ◌<◌, Float, length, replicate}
+use Rattle.std.specs.Prelude.{◌≡◌, refl, Bool, true, false, cond, not, List, ℕ, ◌*◌, ◌≤◌, ◌<◌, Float, length, Result, Ok, Err}
 use Rattle.std.proofs.Math.Path.{ap}
 use Rattle.std.proofs.Common.{sym, ◌∙◌}
 use borrow.Author.Tests.{le-leb, lt-leb, not-true, not-false}
@@ -20,7 +20,11 @@ use Rattle.render.specs.Render.{rendered, rendered_by}
 use Rattle.desk_order.specs.declared.listed.MixOrder.{MixOrder}
 use Rattle.desk_order.specs.Listed.{listed_of}
 use Rattle.desk_render.specs.DeskRender.{order_by}
-use Rattle.calls.specs.Calls.{OrderOutcome, lengths_refused, lengths_given, lengths_call, length_left, reply_length_call, open_left, open_call, update_left, update_done, update_call, render_left, render_done, render_call, order_given, order_call}
+use Rattle.renderer.specs.declared.answers.LengthsError.{LengthsError}
+use Rattle.renderer.specs.declared.answers.LengthsError.TheVariants.{Samples, Counts}
+use Rattle.renderer.specs.declared.answers.OpenError.{OpenError}
+use Rattle.renderer.specs.Answers.{lengths_refusal, first_no, allowed_of, lengths_seen, reply_length_seen, open_refusal, open_refusal_of, open_seen}
+use Rattle.calls.specs.Calls.{lengths_refused, lengths_given, lengths_call, length_left, reply_length_call, open_left, open_call, update_left, update_done, update_call, render_left, render_done, render_call, order_given, order_refused, order_call}
 
 -- a test t that its function answered by r
 pub passed : {t r : Bool} → r ≡ t → not r ≡ false → t ≡ true
@@ -29,60 +33,78 @@ passed {r = r} e q = sym e ∙ not-false r q
 pub failed : {t r : Bool} → r ≡ t → not r ≡ true → t ≡ false
 failed {r = r} e q = sym e ∙ not-true r q
 
--- ---- lengths, reply_length and open: the answers s, c and z of questions 1, 2 and 3
+-- ---- lengths, reply_length and open: the answer r of questions 1 and 2, and z of question 3
 
-module _ (p : Params) {s : Bool} (es : s ≡ samples_allowed p) where
-  pub lengths_one : not s ≡ true → lengths_refused 1 ≡ lengths_call p
-  unfolding lengths_call
-  lengths_one q = rw (failed es q)
+-- of outcomes with a number, that of a refusal: `done` is what is left where all is allowed
+refused_by : {A : Type 0} (left : ℕ → A) (done : A) (s c : Bool) {e : LengthsError} → first_no s c ≡ Err e
+    → left (lengths_refusal e) ≡ cond s (cond c done (left 2)) (left 1)
+refused_by left done true true q = absurd (cc)
+refused_by left done true false {e} q =
+    let same : Counts ≡ e = cc in
+    ap (λ (x : LengthsError). left (lengths_refusal x)) (sym same)
+refused_by left done false c {e} q =
+    let same : Samples ≡ e = cc in
+    ap (λ (x : LengthsError). left (lengths_refusal x)) (sym same)
 
-  pub length_one : (expected : ℕ) → not s ≡ true → length_left 1 0 ≡ reply_length_call p expected
-  unfolding reply_length_call
-  length_one expected q = rw (failed es q)
+open_refused : (e : LengthsError) → open_refusal (open_refusal_of e) ≡ lengths_refusal e
+open_refused Samples = refl
+open_refused Counts = refl
 
-  pub open_one : (st : State) → not s ≡ true → open_left 1 st ≡ open_call p st
-  unfolding open_call
-  open_one st q = rw (failed es q)
+allowed_by : (s c : Bool) {u : Unit {0}} → first_no s c ≡ Ok u → (s ≡ true) × (c ≡ true)
+allowed_by true true q = (refl, refl)
+allowed_by true false q = absurd (cc)
+allowed_by false c q = absurd (cc)
 
-  module _ (q : not s ≡ false) {c : Bool} (ec : c ≡ counts_allowed p) where
-    pub lengths_two : not c ≡ true → lengths_refused 2 ≡ lengths_call p
+module _ (p : Params) {r : Result (Unit {0}) LengthsError} (er : r ≡ allowed_of p) where
+  module _ {e : LengthsError} (q : r ≡ Err e) where
+    not_allowed : first_no (samples_allowed p) (counts_allowed p) ≡ Err e
+    unfolding allowed_of
+    not_allowed = sym er ∙ q
+
+    pub lengths_not : lengths_seen (Err e) ≡ lengths_call p
     unfolding lengths_call
-    lengths_two w = rw (passed es q, failed ec w)
+    lengths_not = refused_by lengths_refused (lengths_given (places_of p)) _ _ not_allowed
 
-    pub length_two : (expected : ℕ) → not c ≡ true → length_left 2 0 ≡ reply_length_call p expected
+    pub length_not : (expected : ℕ) → reply_length_seen (Err e) ≡ reply_length_call p expected
     unfolding reply_length_call
-    length_two expected w = rw (passed es q, failed ec w)
+    length_not expected = refused_by (λ n. length_left n 0) (length_left 0 (reply_length p expected)) _ _ not_allowed
 
-    pub open_two : (st : State) → not c ≡ true → open_left 2 st ≡ open_call p st
+    pub open_not : (st : State) {o : OpenError} → o ≡ open_refusal_of e → open_seen (Err o) st ≡ open_call p st
     unfolding open_call
-    open_two st w = rw (passed es q, failed ec w)
+    open_not st eo =
+        ap (λ (n : ℕ). open_left n st) (ap open_refusal eo ∙ open_refused e)
+        ∙ refused_by (λ n. open_left n st) (cond (sized_of (places_of p) st) (open_left 0 (opened p)) (open_left 3 st)) _ _ not_allowed
 
-    module _ (w : not c ≡ false) where
-      pub allowed : Allowed p
-      allowed = allowed_facts p (passed es q) (passed ec w)
+  module _ {u : Unit {0}} (q : r ≡ Ok u) where
+    both : (samples_allowed p ≡ true) × (counts_allowed p ≡ true)
+    unfolding allowed_of
+    both = allowed_by (samples_allowed p) (counts_allowed p) (sym er ∙ q)
 
-      pub lengths_given_lem : {at : Places} → at ≡ places_of p → lengths_given at ≡ lengths_call p
-      unfolding lengths_call
-      lengths_given_lem e = rw (passed es q, passed ec w) (ap lengths_given e)
+    pub allowed : Allowed p
+    allowed = allowed_facts p both.0 both.1
 
-      pub length_given : (expected : ℕ) {size : ℕ} → size ≡ reply_length p expected → length_left 0 size ≡ reply_length_call p expected
-      unfolding reply_length_call
-      length_given expected e = rw (passed es q, passed ec w) (ap (length_left 0) e)
+    pub lengths_given_lem : {at : Places} → at ≡ places_of p → lengths_given at ≡ lengths_call p
+    unfolding lengths_call
+    lengths_given_lem e = rw (both.0, both.1) (ap lengths_given e)
 
-      module _ (st : State) {at : Places} (ea : at ≡ places_of p) {z : Bool} (ez : z ≡ sized_of at st) where
-        sized_is : z ≡ sized_of (places_of p) st
-        sized_is = ez ∙ ap (λ (x : Places). sized_of x st) ea
+    pub length_given : (expected : ℕ) {size : ℕ} → size ≡ reply_length p expected → length_left 0 size ≡ reply_length_call p expected
+    unfolding reply_length_call
+    length_given expected e = rw (both.0, both.1) (ap (length_left 0) e)
 
-        pub open_three : not z ≡ true → open_left 3 st ≡ open_call p st
-        unfolding open_call
-        open_three y = rw (passed es q, passed ec w, failed sized_is y)
+    module _ (st : State) {at : Places} (ea : at ≡ places_of p) {z : Bool} (ez : z ≡ sized_of at st) where
+      sized_is : z ≡ sized_of (places_of p) st
+      sized_is = ez ∙ ap (λ (x : Places). sized_of x st) ea
 
-        pub sized : not z ≡ false → Sized p st
-        sized y = sized_facts p st (passed sized_is y)
+      pub open_three : not z ≡ true → open_left 3 st ≡ open_call p st
+      unfolding open_call
+      open_three y = rw (both.0, both.1, failed sized_is y)
 
-        pub open_done : not z ≡ false → {u : State} → u ≡ opened p → open_left 0 u ≡ open_call p st
-        unfolding open_call
-        open_done y e = rw (passed es q, passed ec w, passed sized_is y) (ap (open_left 0) e)
+      pub sized : not z ≡ false → Sized p st
+      sized y = sized_facts p st (passed sized_is y)
+
+      pub open_done : not z ≡ false → {u : State} → u ≡ opened p → open_left 0 u ≡ open_call p st
+      unfolding open_call
+      open_done y e = rw (both.0, both.1, passed sized_is y) (ap (open_left 0) e)
 
 -- ---- update: the answer t of question 4, and the parameters p that were found
 
@@ -149,8 +171,8 @@ module _ (st : State) (rs : List Range) (m : List ℕ) (frames : List Float) {t 
 -- ---- mix_order: the answer t of question 4
 
 module _ (st : State) {t : Bool} (et : t ≡ whole_of st) where
-  pub order_four : not t ≡ true → ◌≡◌ {A = OrderOutcome} (record { number = 4; order = record { count = 0; mixes = replicate 31 0 } }) (order_call st)
-  unfolding order_call put
+  pub order_four : not t ≡ true → order_refused 4 ≡ order_call st
+  unfolding order_call
   order_four q = rw (failed et q)
 
   pub order_done : not t ≡ false → {p : Params} → p ≡ params_in st → {r : MixOrder} → r ≡ listed_of (order_by p st.words) → order_given r ≡ order_call st

@@ -1,11 +1,10 @@
-// What the calls answer. Beside each refusal stands its number.
+// What the calls answer: what they give, and why they refuse. Each refusal has its number of docs/QUESTIONS.md.
 ghost use Rattle.std.specs.Prelude.{◌≡◌};
-ghost use Rattle.renderer.specs.Answers.{open_number};
-
-use desk_order::MixOrder;
+ghost use Rattle.renderer.specs.Answers.{lengths_refusal, open_refusal, open_refusal_of, update_refusal};
+ghost use Rattle.renderer.specs.Answers.{render_refusal, section_refusal, order_refusal};
 
 // How long the five slices of a renderer's state must be.
-#[derive(Clone, Copy)]
+#[derive(Clone, Copy, Debug, PartialEq, Eq)]
 pub struct Lengths {
     pub words: usize,
     pub longs: usize,
@@ -14,95 +13,148 @@ pub struct Lengths {
     pub history: usize,
 }
 
-#[derive(Clone, Copy)]
-pub enum LengthsAnswer {
-    Lengths(Lengths),
-    // 1: samples per render
+// Why `lengths` and `reply_length` refuse.
+#[derive(Clone, Copy, Debug, PartialEq, Eq)]
+pub enum LengthsError {
+    // Samples per render.
     Samples,
-    // 2: another count
+    // Another count.
     Counts,
 }
 
-#[derive(Clone, Copy)]
-pub enum ReplyLengthAnswer {
-    // The length of the reply.
-    Length(usize),
-    // 1: samples per render
-    Samples,
-    // 2: another count
-    Counts,
-}
-
-#[derive(Clone, Copy)]
-pub enum OpenAnswer {
-    Opened,
-    // 1: samples per render
-    Samples,
-    // 2: another count
-    Counts,
-    // 3: the lengths of the state's slices
-    Lengths,
-}
-
-impl OpenAnswer {
-    // The refusal's number, or 0.
+impl LengthsError {
     pub fn number(self) -> u32
-        ensures { result ≡ open_number «self» }
+        ensures { result ≡ lengths_refusal «self» }
     {
         match self {
-            OpenAnswer::Opened => 0,
-            OpenAnswer::Samples => 1,
-            OpenAnswer::Counts => 2,
-            OpenAnswer::Lengths => 3,
+            LengthsError::Samples => 1,
+            LengthsError::Counts => 2,
         }
     }
 }
 
-#[derive(Clone, Copy)]
-pub enum UpdateAnswer {
-    // The length of the reply.
-    Updated(usize),
-    // 4: the state
+// Why `open` refuses.
+#[derive(Clone, Copy, Debug, PartialEq, Eq)]
+pub enum OpenError {
+    // Samples per render.
+    Samples,
+    // Another count.
+    Counts,
+    // The lengths of the state's slices.
+    Lengths,
+}
+
+impl OpenError {
+    pub fn number(self) -> u32
+        ensures { result ≡ open_refusal «self» }
+    {
+        match self {
+            OpenError::Samples => 1,
+            OpenError::Counts => 2,
+            OpenError::Lengths => 3,
+        }
+    }
+}
+
+impl From<LengthsError> for OpenError {
+    ghost from_gives = { λ e o. o ≡ open_refusal_of e };
+
+    fn from(e: LengthsError) -> OpenError {
+        match e {
+            LengthsError::Samples => OpenError::Samples,
+            LengthsError::Counts => OpenError::Counts,
+        }
+    }
+}
+
+// Why `update` refuses.
+#[derive(Clone, Copy, Debug, PartialEq, Eq)]
+pub enum UpdateError {
+    // The state.
     NotWhole,
-    // 6: the reply slice
+    // The reply slice.
     ShortReply,
 }
 
-#[derive(Clone, Copy)]
-pub enum RenderAnswer {
-    // The rounds that the fetches took, of all voices.
-    Rendered(u32),
-    // 4: the state
+impl UpdateError {
+    pub fn number(self) -> u32
+        ensures { result ≡ update_refusal «self» }
+    {
+        match self {
+            UpdateError::NotWhole => 4,
+            UpdateError::ShortReply => 6,
+        }
+    }
+}
+
+// Why `render` refuses.
+#[derive(Clone, Copy, Debug, PartialEq, Eq)]
+pub enum RenderError {
+    // The state.
     NotWhole,
-    // 13: the ranges of sample memory
+    // The ranges of sample memory.
     Ranges,
-    // 5: where a range ends
+    // Where a range ends.
     FarMemory,
-    // 7: the frame slice
+    // The frame slice.
     ShortFrames,
 }
 
-#[derive(Clone, Copy)]
-pub enum SectionAnswer {
-    // The rounds that the fetches of all its renders took.
-    Rendered(u32),
-    // 4: the state
+impl RenderError {
+    pub fn number(self) -> u32
+        ensures { result ≡ render_refusal «self» }
+    {
+        match self {
+            RenderError::NotWhole => 4,
+            RenderError::Ranges => 13,
+            RenderError::FarMemory => 5,
+            RenderError::ShortFrames => 7,
+        }
+    }
+}
+
+// Why `render_section` refuses.
+#[derive(Clone, Copy, Debug, PartialEq, Eq)]
+pub enum SectionError {
+    // The state.
     NotWhole,
-    // 13: the ranges of sample memory
+    // The ranges of sample memory.
     Ranges,
-    // 5: where a range ends
+    // Where a range ends.
     FarMemory,
-    // 14: the count of renders
+    // The count of renders.
     Count,
-    // 7: the frame slice
+    // The frame slice.
     ShortFrames,
 }
 
-// An enum can't hold an array here, so the number stands beside it.
-#[derive(Clone, Copy)]
-pub struct OrderAnswer {
-    // 4: the state
-    pub number: u32,
-    // The sub-mixes that run, in their sequence; none where the call is refused.
-    pub order: MixOrder,
+impl SectionError {
+    pub fn number(self) -> u32
+        ensures { result ≡ section_refusal «self» }
+    {
+        match self {
+            SectionError::NotWhole => 4,
+            SectionError::Ranges => 13,
+            SectionError::FarMemory => 5,
+            SectionError::Count => 14,
+            SectionError::ShortFrames => 7,
+        }
+    }
+}
+
+// Why `mix_order` refuses.
+#[derive(Clone, Copy, Debug, PartialEq, Eq)]
+pub enum OrderError {
+    // The state.
+    NotWhole,
+}
+
+impl OrderError {
+    pub fn number(self) -> u32
+        ensures { result ≡ order_refusal «self» }
+    {
+        match self {
+            OrderError::NotWhole => 4,
+        }
+    }
 }

@@ -3,6 +3,7 @@
 #![tactic(auto)]
 
 mod answers;
+mod counts;
 mod sections;
 
 ghost use Rattle.std.specs.Prelude.{◌≡◌};
@@ -12,25 +13,21 @@ ghost use Rattle.calls.specs.Calls.{lengths_call, reply_length_call, open_call, 
 ghost use Rattle.renderer.specs.Answers.{lengths_seen, reply_length_seen, open_seen, update_seen, render_seen, order_seen};
 
 pub use answers::{
-    Lengths, LengthsAnswer, OpenAnswer, OrderAnswer, RenderAnswer, ReplyLengthAnswer,
-    SectionAnswer, UpdateAnswer,
+    Lengths, LengthsError, OpenError, OrderError, RenderError, SectionError, UpdateError,
 };
+use counts::allowed;
 use desk_order::MixOrder;
 use params::Params;
 pub use sections::render_section;
+use slices::Slices;
 
 // How long the slices of a renderer with these parameters must be.
-pub fn lengths(p: Params) -> LengthsAnswer
+pub fn lengths(p: Params) -> Result<Lengths, LengthsError>
     ensures { lengths_seen result ≡ lengths_call p }
 {
-    if !whole::samples_allowed(p) {
-        return LengthsAnswer::Samples;
-    }
-    if !whole::counts_allowed(p) {
-        return LengthsAnswer::Counts;
-    }
+    allowed(p)?;
     let at = state::places_of(p);
-    LengthsAnswer::Lengths(Lengths {
+    Ok(Lengths {
         words: at.words,
         longs: at.longs,
         floats: at.floats,
@@ -40,16 +37,11 @@ pub fn lengths(p: Params) -> LengthsAnswer
 }
 
 // How long the reply to an update is, where the title expects so many bytes.
-pub fn reply_length(p: Params, expected: u32) -> ReplyLengthAnswer
+pub fn reply_length(p: Params, expected: u32) -> Result<usize, LengthsError>
     ensures { reply_length_seen result ≡ reply_length_call p expected }
 {
-    if !whole::samples_allowed(p) {
-        return ReplyLengthAnswer::Samples;
-    }
-    if !whole::counts_allowed(p) {
-        return ReplyLengthAnswer::Counts;
-    }
-    ReplyLengthAnswer::Length(p.reply_length(expected))
+    allowed(p)?;
+    Ok(p.reply_length(expected))
 }
 
 // Makes the state of a renderer, whatever the slices held before.
@@ -60,16 +52,11 @@ pub fn open(
     floats: &mut [f32],
     contexts: &mut [u16],
     history: &mut [f32],
-) -> OpenAnswer
+) -> Result<(), OpenError>
     ensures { open_seen result (state_of words.new longs.new floats.new contexts.new history.new)
         ≡ open_call p (state_of words.old longs.old floats.old contexts.old history.old) }
 {
-    if !whole::samples_allowed(p) {
-        return OpenAnswer::Samples;
-    }
-    if !whole::counts_allowed(p) {
-        return OpenAnswer::Counts;
-    }
+    allowed(p)?;
     let at = state::places_of(p);
     if !whole::lengths_right(
         at,
@@ -79,13 +66,21 @@ pub fn open(
         contexts.len(),
         history.len(),
     ) {
-        return OpenAnswer::Lengths;
+        return Err(OpenError::Lengths);
     }
-    opened::open_state(p, words, longs, floats, contexts, history);
-    OpenAnswer::Opened
+    let mut s = Slices {
+        words,
+        longs,
+        floats,
+        contexts,
+        history,
+    };
+    opened::open_state(p, &mut s);
+    Ok(())
 }
 
-// A title's update: `expected` is the size of reply that it expects, `input` its sections. The reply goes to the front of `reply`.
+// A title's update: `expected` is the size of reply that it expects, `input` its sections. The reply goes to the front of `reply`, and its
+// length is given.
 pub fn update(
     words: &mut [u32],
     longs: &mut [u64],
@@ -95,26 +90,32 @@ pub fn update(
     expected: u32,
     input: &[u8],
     reply: &mut [u8],
-) -> UpdateAnswer
+) -> Result<usize, UpdateError>
     ensures { update_seen result (state_of words.new longs.new floats.new contexts.new history.new) reply.new
         ≡ update_call (state_of words.old longs.old floats.old contexts.old history.old) expected input.now reply.old }
 {
     if !whole::whole(words, longs, floats, contexts, history) {
-        return UpdateAnswer::NotWhole;
+        return Err(UpdateError::NotWhole);
     }
     let p = Params::load(words);
     let size = p.reply_length(expected);
     if reply.len() < size {
-        return UpdateAnswer::ShortReply;
+        return Err(UpdateError::ShortReply);
     }
-    updates::update(
-        p, expected, input, words, longs, floats, contexts, history, reply,
-    );
-    UpdateAnswer::Updated(size)
+    let mut s = Slices {
+        words,
+        longs,
+        floats,
+        contexts,
+        history,
+    };
+    updates::update(p, expected, input, &mut s, reply);
+    Ok(size)
 }
 
 // A render: samples are read from `memory`, whose parts stand at the addresses that `ranges` says: three numbers a range, its base, where
 // its part starts in `memory`, and its length. The frames, left and right by turns, go to the front of `frames`.
+// Gives the rounds that the fetches took, of all voices.
 pub fn render(
     words: &mut [u32],
     longs: &mut [u64],
@@ -124,28 +125,28 @@ pub fn render(
     ranges: &[u64],
     memory: &[u8],
     frames: &mut [f32],
-) -> RenderAnswer
+) -> Result<u32, RenderError>
     ensures { render_seen result (state_of words.new longs.new floats.new contexts.new history.new) frames.new
         ≡ render_call (state_of words.old longs.old floats.old contexts.old history.old)
         (ranges_of ranges.now) memory.now frames.old }
 {
     if !whole::whole(words, longs, floats, contexts, history) {
-        return RenderAnswer::NotWhole;
+        return Err(RenderError::NotWhole);
     }
     if !ranges::laid(ranges, memory.len() as u64) {
-        return RenderAnswer::Ranges;
+        return Err(RenderError::Ranges);
     }
     if !ranges::near(ranges) {
-        return RenderAnswer::FarMemory;
+        return Err(RenderError::FarMemory);
     }
     let p = Params::load(words);
     if frames.len() < 2 * p.sample_count as usize {
-        return RenderAnswer::ShortFrames;
+        return Err(RenderError::ShortFrames);
     }
     let rounds = render::render(
         p, ranges, memory, words, longs, floats, contexts, history, frames,
     );
-    RenderAnswer::Rendered(rounds)
+    Ok(rounds)
 }
 
 // The sub-mixes that a render of this state runs, in their sequence.
@@ -155,16 +156,11 @@ pub fn mix_order(
     floats: &[f32],
     contexts: &[u16],
     history: &[f32],
-) -> OrderAnswer
+) -> Result<MixOrder, OrderError>
     ensures { order_seen result ≡ order_call (state_of words.now longs.now floats.now contexts.now history.now) }
 {
     if !whole::whole(words, longs, floats, contexts, history) {
-        let order = MixOrder {
-            count: 0,
-            mixes: [0u32; 31],
-        };
-        return OrderAnswer { number: 4, order };
+        return Err(OrderError::NotWhole);
     }
-    let order = desk_render::mix_order(Params::load(words), words);
-    OrderAnswer { number: 0, order }
+    Ok(desk_render::mix_order(Params::load(words), words))
 }

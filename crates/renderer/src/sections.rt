@@ -5,11 +5,11 @@ ghost use Rattle.state.specs.State.{state_of};
 ghost use Rattle.calls.specs.Sections.{section_call};
 ghost use Rattle.renderer.specs.Answers.{section_seen};
 
-use crate::answers::SectionAnswer;
+use crate::answers::SectionError;
 use params::Params;
 
 // `count` renders one after the other, each with samples from the same memory, as `render` takes it. The frames of each go behind those of
-// the one before it, the first to the front of `frames`.
+// the one before it, the first to the front of `frames`. Gives the rounds that the fetches of all of them took.
 pub fn render_section(
     words: &mut [u32],
     longs: &mut [u64],
@@ -20,7 +20,7 @@ pub fn render_section(
     ranges: &[u64],
     memory: &[u8],
     frames: &mut [f32],
-) -> SectionAnswer
+) -> Result<u32, SectionError>
     ensures { section_seen result
         (state_of words.new longs.new floats.new contexts.new history.new)
         frames.new
@@ -29,23 +29,23 @@ pub fn render_section(
         count (ranges_of ranges.now) memory.now frames.old }
 {
     if !whole::whole(words, longs, floats, contexts, history) {
-        return SectionAnswer::NotWhole;
+        return Err(SectionError::NotWhole);
     }
     if !ranges::laid(ranges, memory.len() as u64) {
-        return SectionAnswer::Ranges;
+        return Err(SectionError::Ranges);
     }
     if !ranges::near(ranges) {
-        return SectionAnswer::FarMemory;
+        return Err(SectionError::FarMemory);
     }
     if !renders::renders_allowed(count) {
-        return SectionAnswer::Count;
+        return Err(SectionError::Count);
     }
     let p = Params::load(words);
     if frames.len() < renders::floats_for(p, count) {
-        return SectionAnswer::ShortFrames;
+        return Err(SectionError::ShortFrames);
     }
     let rounds = renders::render_all(
         p, count, ranges, memory, words, longs, floats, contexts, history, frames,
     );
-    SectionAnswer::Rendered(rounds)
+    Ok(rounds)
 }

@@ -58,6 +58,11 @@ sectioning_begin {count = count} {rs} {m} {st} {frames} h few =
       joins = λ i. render_left (sym number i) (same i) o.state o.frames;
     }
 
+-- the renders that are left, counted in another way
+pub sectioning_left : {p : Params} {rs : List Range} {m : List ℕ} {all : RenderOutcome} {st : State} {frames : List Float} {rounds at k n : ℕ}
+    → k ≡ n → Sectioning p rs m all st frames rounds at k → Sectioning p rs m all st frames rounds at n
+sectioning_left {p} {rs} {m} {all} {st} {frames} {rounds} {at} e g = subst (Sectioning p rs m all st frames rounds at) e g
+
 -- ---- one more
 
 -- by what is left after it, for the parameters that stand in the state

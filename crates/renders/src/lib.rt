@@ -53,10 +53,9 @@ pub fn render_all(
         (ranges_of ranges.now) memory.now frames.old }
 {
     let wide = 2 * p.sample_count as usize;
-    let mut rounds: u32 = 0;
+    let mut rounds = 0;
     let mut at = 0;
-    let mut left = count;
-    while left > 0 {
+    for _ in 0..count {
         let spent = render::render(
             p,
             ranges,
@@ -70,7 +69,6 @@ pub fn render_all(
         );
         rounds += spent;
         at += wide;
-        left -= 1;
     }
     rounds
 }

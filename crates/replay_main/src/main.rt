@@ -2,9 +2,9 @@
 // (compare/run store), so that the gate holds the two together.
 #![tactic(auto)]
 
-ghost use Rattle.std.specs.Prelude.{◌+◌, ◌≤◌, length, IfOk};
+ghost use Rattle.std.specs.Prelude.{◌+◌, ◌<◌, ◌≤◌, length, IfOk, IfSome};
 
-use adpcm::{AdpcmAnswer, AdpcmContext, Sample};
+use adpcm::{AdpcmContext, AdpcmError, Decoded, Sample};
 use std::io;
 
 // What lies in an output slice before a call.
@@ -33,38 +33,24 @@ fn print_decimal(rt: &impl Print, n: u64) -> io::Result<()> {
 }
 
 fn print_floats(rt: &impl Print, s: &[f32]) -> io::Result<()> {
-    let mut k = 0;
-    while k < s.len() {
-        print_hex(rt, floats::to_bits(s[k]))?;
-        k += 1;
+    for x in s {
+        print_hex(rt, floats::to_bits(*x))?;
     }
     Ok(())
 }
 
-fn fill(s: &mut [f32]) {
-    let mut k = 0;
-    while k < s.len() {
-        s[k] = FILL;
-        k += 1;
-    }
-}
-
 // The header, and the two samples as the bits of their floats.
 fn print_context(rt: &impl Print, c: AdpcmContext) -> io::Result<()> {
-    print_hex(rt, c.pred_scale as u32)?;
-    print_hex(rt, floats::to_bits(c.history0 as f32))?;
-    print_hex(rt, floats::to_bits(c.history1 as f32))
+    print_hex(rt, u32::from(c.pred_scale))?;
+    print_hex(rt, floats::to_bits(f32::from(c.history0)))?;
+    print_hex(rt, floats::to_bits(f32::from(c.history1)))
 }
 
-fn print_refused(rt: &impl Print, number: u64) -> io::Result<()> {
-    print_decimal(rt, number)?;
-    print_decimal(rt, 0)?;
-    let none = AdpcmContext {
-        pred_scale: 0,
-        history0: 0,
-        history1: 0,
-    };
-    print_context(rt, none)
+// The number of an answer, how many samples were decoded, and the context that is left.
+fn print_outcome(rt: &impl Print, number: u32, done: usize, c: AdpcmContext) -> io::Result<()> {
+    print_decimal(rt, u64::from(number))?;
+    print_decimal(rt, done as u64)?;
+    print_context(rt, c)
 }
 
 // One decode: start (8 bytes), count, room and data length (4 each), coefficients (32), context (6), data.
@@ -73,7 +59,7 @@ fn adpcm_run(rt: &impl Print, c: &[u8], clip: &[u8], out: &mut [f32]) -> io::Res
     let count = fields::u32_at(c, 9) as usize;
     let pairs = adpcm::coefficients(fields::rest(c, 21));
     let ctx = AdpcmContext::parse(fields::rest(c, 53));
-    fill(out);
+    out.fill(FILL);
     rt.write_all(b"adpcm")?;
     print_answer(
         rt,
@@ -83,46 +69,34 @@ fn adpcm_run(rt: &impl Print, c: &[u8], clip: &[u8], out: &mut [f32]) -> io::Res
     print_end(rt)
 }
 
-fn print_answer(rt: &impl Print, a: AdpcmAnswer) -> io::Result<()> {
+fn print_answer(rt: &impl Print, a: Result<Decoded, AdpcmError>) -> io::Result<()> {
     match a {
-        AdpcmAnswer::Done(d) => {
-            print_decimal(rt, 0)?;
-            print_decimal(rt, d.done as u64)?;
-            print_context(rt, d.context)
-        }
-        AdpcmAnswer::FarStart => print_refused(rt, 8),
-        AdpcmAnswer::ShortOutput => print_refused(rt, 9),
+        Ok(d) => print_outcome(rt, 0, d.done, d.context),
+        Err(e) => print_outcome(rt, e.number(), 0, AdpcmContext::default()),
     }
 }
 
-// Runs a decode and gives the number of bytes read, or 0 where the case is not whole. An error is that of a write.
-fn adpcm_case(rt: &impl Print, c: &[u8], out: &mut [f32]) -> io::Result<usize>
-    ensures { IfOk result (λ n. n ≤ length c.now) }
+// Runs a decode and gives the number of bytes read, or nothing where the case is not whole. An error is that of a write.
+fn adpcm_case(rt: &impl Print, c: &[u8], out: &mut [f32]) -> io::Result<Option<usize>>
+    ensures { IfOk result (λ o. IfSome o (λ n. (0 < n) × (n ≤ length c.now))) }
 {
     let room = fields::u32_at(c, 13) as usize;
     let size = fields::u32_at(c, 17) as usize;
-    if c.len() < ADPCM_HEADER {
-        return Ok(0);
-    }
-    if c.len() - ADPCM_HEADER < size {
-        return Ok(0);
-    }
-    if out.len() < room {
-        return Ok(0);
-    }
     let end = ADPCM_HEADER + size;
-    adpcm_run(rt, c, &c[ADPCM_HEADER..end], &mut out[..room])?;
-    Ok(end)
+    let Some(clip) = c.get(ADPCM_HEADER..end) else {
+        return Ok(None);
+    };
+    if out.len() < room {
+        return Ok(None);
+    }
+    adpcm_run(rt, c, clip, &mut out[..room])?;
+    Ok(Some(end))
 }
 
 // The inputs of a resample, as bits; 0 past the end.
 fn read_floats(d: &[u8], input: &mut [f32]) {
-    let mut k = 0;
-    let mut at = 0;
-    while k < input.len() {
-        input[k] = fields::f32_at(fields::rest(d, at), 0);
-        k += 1;
-        at = std::num::wrapping_add_usize(at, 4);
+    for (k, x) in input.iter_mut().enumerate() {
+        *x = fields::f32_at(d, k.wrapping_mul(4));
     }
 }
 
@@ -131,17 +105,11 @@ fn resample_run(rt: &impl Print, c: &[u8], input: &mut [f32], out: &mut [f32]) -
     let count = fields::u32_at(c, 5);
     let ratio = fields::f32_at(c, 13);
     let fraction = fields::f32_at(c, 17);
-    if input.len() < 3 {
-        return Ok(());
-    }
-    if input.len() > 64 {
-        return Ok(());
-    }
-    if out.len() < count as usize {
+    if input.len() < 3 || input.len() > 64 || out.len() < count as usize {
         return Ok(());
     }
     read_floats(fields::rest(c, RESAMPLE_HEADER), input);
-    fill(out);
+    out.fill(FILL);
     let next = resample::resample(input, out, count, ratio, fraction);
     rt.write_all(b"resample")?;
     print_decimal(rt, resample::needed(fraction, ratio, count) as u64)?;
@@ -150,52 +118,41 @@ fn resample_run(rt: &impl Print, c: &[u8], input: &mut [f32], out: &mut [f32]) -
     print_end(rt)
 }
 
-// Runs a resample and gives the number of bytes read, or 0 where the case is not whole. An error is that of a write.
-fn resample_case(rt: &impl Print, c: &[u8], input: &mut [f32], out: &mut [f32]) -> io::Result<usize>
-    ensures { IfOk result (λ n. n ≤ length c.now) }
+// Runs a resample and gives the number of bytes read, or nothing where the case is not whole. An error is that of a write.
+fn resample_case(
+    rt: &impl Print,
+    c: &[u8],
+    input: &mut [f32],
+    out: &mut [f32],
+) -> io::Result<Option<usize>>
+    ensures { IfOk result (λ o. IfSome o (λ n. (0 < n) × (n ≤ length c.now))) }
 {
     let n = fields::u32_at(c, 1) as usize;
     let room = fields::u32_at(c, 9) as usize;
-    if input.len() < n {
-        return Ok(0);
-    }
-    if n > 64 {
-        return Ok(0);
-    }
-    if out.len() < room {
-        return Ok(0);
-    }
     let end = RESAMPLE_HEADER + n * 4;
-    if c.len() < end {
-        return Ok(0);
+    if input.len() < n || n > 64 || out.len() < room || c.len() < end {
+        return Ok(None);
     }
     resample_run(rt, c, &mut input[..n], &mut out[..room])?;
-    Ok(end)
+    Ok(Some(end))
 }
 
-// The case at the front of c: the number of bytes read, or 0 where it is none. An error is that of a write.
-fn case(rt: &impl Print, c: &[u8], input: &mut [f32], out: &mut [f32]) -> io::Result<usize>
-    ensures { IfOk result (λ n. n ≤ length c.now) }
+// The case at the front of c: the number of bytes read, or nothing where it is none. An error is that of a write.
+fn case(rt: &impl Print, c: &[u8], input: &mut [f32], out: &mut [f32]) -> io::Result<Option<usize>>
+    ensures { IfOk result (λ o. IfSome o (λ n. (0 < n) × (n ≤ length c.now))) }
 {
-    let kind = fields::byte_at(c, 0);
-    if kind == 1 {
-        return adpcm_case(rt, c, out);
+    match fields::byte_at(c, 0) {
+        1 => adpcm_case(rt, c, out),
+        2 => resample_case(rt, c, input, out),
+        _ => Ok(None),
     }
-    if kind == 2 {
-        return resample_case(rt, c, input, out);
-    }
-    Ok(0)
 }
 
 // Every case in turn, up to the end of the input or the first that is none.
 fn replay(rt: &impl Print, d: &[u8], input: &mut [f32], out: &mut [f32]) -> io::Result<()> {
-    let mut at = 0;
-    while at < d.len() {
-        let read = case(rt, &d[at..], input, out)?;
-        if read == 0 {
-            return Ok(());
-        }
-        at += read;
+    let mut left = d;
+    while let Some(read) = case(rt, left, input, out)? {
+        left = &left[read..];
     }
     Ok(())
 }

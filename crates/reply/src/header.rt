@@ -41,6 +41,5 @@ pub fn write_header(p: Params, expected: u32, out: &mut [u8])
     let effects = p.effects_bytes(expected) as u32;
     let info = p.render_info_size() as u32;
     let total = p.reply_length(expected) as u32;
-    let header = header_words(p, pools, effects, info, total);
-    put_words(out, 0, &header);
+    put_words(out, 0, &header_words(p, pools, effects, info, total));
 }

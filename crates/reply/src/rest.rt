@@ -5,7 +5,6 @@ ghost use Rattle.params.specs.Sizes.{Allowed, info_bytes};
 ghost use Rattle.reply.specs.Reply.{rest_bytes, info_of};
 
 use params::Params;
-use reply_sections::put_zeros;
 
 // Sinks, performance and behaviour: zeros.
 pub fn write_rest(p: Params, out: &mut [u8], at: usize)
@@ -13,11 +12,8 @@ pub fn write_rest(p: Params, out: &mut [u8], at: usize)
     requires sinks_in_bounds { at + (p.sinks * 0x20 + 0xc0) ≤ length out.old }
     ensures { out.new ≡ put out.old at (rest_bytes p) }
 {
-    put_zeros(
-        out,
-        at,
-        p.sinks as usize * params::SINK_OUT + params::PERFORMANCE_OUT + params::BEHAVIOR_OUT,
-    );
+    let n = p.sinks as usize * params::SINK_OUT + params::PERFORMANCE_OUT + params::BEHAVIOR_OUT;
+    rows::fill(out, at, n, 0);
 }
 
 // Render info, from revision 5: the elapsed renders.
@@ -25,9 +21,8 @@ pub fn write_info(p: Params, elapsed: u64, out: &mut [u8], at: usize)
     requires { at + info_bytes p ≤ length out.old }
     ensures { out.new ≡ put out.old at (info_of p elapsed) }
 {
-    if p.revision_number() < 5 {
-        return;
+    if p.revision_number() >= 5 {
+        fields::put_u64(out, at, elapsed);
+        rows::fill(out, at + 8, 8, 0);
     }
-    fields::put_u64(out, at, elapsed);
-    put_zeros(out, at + 8, 8);
 }

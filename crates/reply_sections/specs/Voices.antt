@@ -1,5 +1,6 @@
 -- The voices' status in the reply: of one in use and not fresh what it has played and consumed, else zeros. Assumes nothing.
-use Rattle.std.specs.Prelude.{◌≡◌, Bool, true, false, cond, not, ◌&&◌, List, ◌++◌, ℕ, ◌+◌, ◌*◌, eqb, length, get_or}
+use Rattle.std.specs.Prelude.{◌≡◌, Bool, true, false, cond, not, ◌&&◌, List, ◌++◌, ℕ, ◌+◌, ◌*◌, eqb, length, get_or, ◌⊎◌}
+use Rattle.std.proofs.Math.Logic.{⊎_elim}
 use borrow.Author.Tests.{eq-eqb, ne_eqb}
 use Rattle.std.proofs.Common.{length-append}
 use Rattle.rows.specs.Tables.{joined, length_joined}
@@ -34,6 +35,9 @@ module _ (used fresh played consumed : ℕ) where
   pub status_fresh : (fresh ≡ 0 → ⊥) → status_of used fresh played consumed ≡ zeros 16
   unfolding status_of
   status_fresh h = simp (ne_eqb fresh 0 h, and_false)
+
+  pub status_silent : (used ≡ 0) ⊎ ((used ≡ 0 → ⊥) × (fresh ≡ 0 → ⊥)) → status_of used fresh played consumed ≡ zeros 16
+  status_silent = ⊎_elim status_unused (λ (h : (used ≡ 0 → ⊥) × (fresh ≡ 0 → ⊥)). status_fresh h.1)
 
   pub status_heard : (used ≡ 0 → ⊥) → fresh ≡ 0 → status_of used fresh played consumed ≡ heard_of played consumed
   unfolding status_of

@@ -4,8 +4,6 @@ ghost use Rattle.rows.specs.Rows.{put};
 ghost use Rattle.rows.specs.Tables.{joined};
 ghost use Rattle.reply_sections.specs.Effects.{effect_state, effect_row, effect_at, effect_rows};
 
-use crate::bytes::put_zeros;
-
 const EFFECT_ENABLED: usize = 2;
 
 const EFFECT_STATE_ENABLED: u8 = 3;
@@ -16,7 +14,7 @@ const EFFECT_STATE_DISABLED: u8 = 4;
 fn effect_state(section: &[u8], at: usize) -> u8
     ensures { result ≡ effect_state section.now at }
 {
-    if fields::byte_at(section, at) != 0 {
+    if fields::flag_at(section, at) {
         EFFECT_STATE_ENABLED
     } else {
         EFFECT_STATE_DISABLED
@@ -28,11 +26,10 @@ fn put_effect(state: u8, w: usize, out: &mut [u8], at: usize)
     requires { at + w ≤ length out.old }
     ensures { out.new ≡ put out.old at (effect_row w state) }
 {
-    if w == 0 {
-        return;
+    if w > 0 {
+        out[at] = state;
+        rows::fill(out, at + 1, w - 1, 0);
     }
-    out[at] = state;
-    put_zeros(out, at + 1, w - 1);
 }
 
 // n effects, each `stride_out` bytes, read from shares of `stride_in` bytes.
@@ -49,11 +46,9 @@ fn put_effects(
     requires stride_out_in_bounds { at + n * stride_out ≤ length out.old }
     ensures { out.new ≡ put out.old at (joined n (effect_at stride_in stride_out section.now)) }
 {
-    let mut i: usize = 0;
-    while i < n {
+    for i in 0..n {
         let state = effect_state(section, i * stride_in + EFFECT_ENABLED);
         put_effect(state, stride_out, out, at + i * stride_out);
-        i += 1;
     }
 }
 
@@ -63,10 +58,7 @@ pub fn write_effects(n: usize, bytes: usize, section: &[u8], out: &mut [u8], at:
     requires bytes_in_bounds { at + bytes ≤ length out.old }
     ensures { out.new ≡ put out.old at (effect_rows n bytes section.now) }
 {
-    if n == 0 {
-        return;
+    if n > 0 {
+        put_effects(n, section.len() / n, bytes / n, section, out, at);
     }
-    let stride_in = section.len() / n;
-    let stride_out = bytes / n;
-    put_effects(n, stride_in, stride_out, section, out, at);
 }

@@ -6,7 +6,7 @@ mod effects;
 mod pools;
 mod voices;
 
-pub use bytes::{put_words, put_zeros};
+pub use bytes::put_words;
 pub use effects::write_effects;
 pub use pools::write_pools;
 pub use voices::write_voices;

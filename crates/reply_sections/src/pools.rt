@@ -3,8 +3,6 @@ ghost use Rattle.std.specs.Prelude.{◌≡◌, ◌+◌, ◌*◌, ◌^◌, ◌≤
 ghost use Rattle.rows.specs.Rows.{put};
 ghost use Rattle.reply_sections.specs.Pools.{granted, pool_word, pool_row, pools_bytes};
 
-use crate::bytes::put_zeros;
-
 const MEMORY_POOL_IN: usize = 0x20;
 
 const POOL_REQUEST_DETACH: u32 = 2;
@@ -16,16 +14,15 @@ const POOL_REQUEST_ATTACH: u32 = 4;
 const POOL_ATTACHED: u32 = 5;
 
 // The state that a pool has after its request.
+#[tactic(auto, using(std::proofs::lemmas::Bool::Decides::nat_tests), unfolding(crate::specs::Pools::granted))]
 fn grant(state: u32) -> u32
     ensures { result ≡ granted state }
 {
-    if state == POOL_REQUEST_ATTACH {
-        return POOL_ATTACHED;
+    match state {
+        POOL_REQUEST_ATTACH => POOL_ATTACHED,
+        POOL_REQUEST_DETACH => POOL_DETACHED,
+        other => other,
     }
-    if state == POOL_REQUEST_DETACH {
-        return POOL_DETACHED;
-    }
-    state
 }
 
 // Pool i's state in the input; 0 past the pools' section, which is `size` bytes and stands behind the behaviour's.
@@ -52,7 +49,7 @@ fn put_pool(behavior: usize, size: usize, input: &[u8], i: usize, out: &mut [u8]
 {
     let state = grant(pool_word(behavior, size, input, i));
     fields::put_u32(out, at, state);
-    put_zeros(out, at + 4, 12);
+    rows::fill(out, at + 4, 12, 0);
 }
 
 // n pools, from `at` on.
@@ -62,8 +59,7 @@ pub fn write_pools(n: usize, behavior: usize, size: usize, input: &[u8], out: &m
     requires n_in_bounds { at + n * 0x10 ≤ length out.old }
     ensures { out.new ≡ put out.old at (pools_bytes n behavior size input.now) }
 {
-    let mut i: usize = 0;
-    while i < n {
+    for i in 0..n {
         put_pool(
             behavior,
             size,
@@ -72,6 +68,5 @@ pub fn write_pools(n: usize, behavior: usize, size: usize, input: &[u8], out: &m
             out,
             at + i * params::MEMORY_POOL_OUT,
         );
-        i += 1;
     }
 }

@@ -3,8 +3,6 @@ ghost use Rattle.std.specs.Prelude.{◌≡◌, ◌+◌, ◌*◌, ◌≤◌, ◌<
 ghost use Rattle.rows.specs.Rows.{put};
 ghost use Rattle.reply_sections.specs.Voices.{heard_of, status_of, status_at, voices_bytes};
 
-use crate::bytes::put_zeros;
-
 const VOICE_WORDS: usize = 58;
 
 const VOICE_LONGS: usize = 14;
@@ -16,7 +14,7 @@ fn put_heard(played: u64, consumed: u32, out: &mut [u8], at: usize)
 {
     fields::put_u64(out, at, played);
     fields::put_u32(out, at + 8, consumed);
-    put_zeros(out, at + 12, 4);
+    rows::fill(out, at + 12, 4, 0);
 }
 
 // A voice's status: zeros where it is not in use, or fresh.
@@ -24,15 +22,11 @@ fn put_status(used: u32, fresh: u32, played: u64, consumed: u32, out: &mut [u8],
     requires { at + 0x10 ≤ length out.old }
     ensures { out.new ≡ put out.old at (status_of used fresh played consumed) }
 {
-    if used == 0 {
-        put_zeros(out, at, 16);
-        return;
+    if used == 0 || fresh != 0 {
+        rows::fill(out, at, 16, 0);
+    } else {
+        put_heard(played, consumed, out, at);
     }
-    if fresh != 0 {
-        put_zeros(out, at, 16);
-        return;
-    }
-    put_heard(played, consumed, out, at);
 }
 
 // Voice i's status.
@@ -53,9 +47,7 @@ pub fn write_voices(n: usize, words: &[u32], longs: &[u64], out: &mut [u8], at: 
     requires n_in_bounds { at + n * 0x10 ≤ length out.old }
     ensures { out.new ≡ put out.old at (voices_bytes n words.now longs.now) }
 {
-    let mut i: usize = 0;
-    while i < n {
+    for i in 0..n {
         put_voice(words, longs, i, out, at + i * params::VOICE_OUT);
-        i += 1;
     }
 }

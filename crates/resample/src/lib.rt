@@ -11,21 +11,23 @@ ghost use Rattle.resample.specs.InStep.{InStep};
 // How many samples a resampler keeps from one run to the next.
 pub const HISTORY: usize = 3;
 
+// The bits of 1.0.
+const ONE_BITS: u32 = 0x3f80_0000;
+
 // Fills the first count of out from input, and gives the next fraction.
 pub fn resample(input: &[f32], out: &mut [f32], count: u32, ratio: f32, fraction: f32) -> f32
-    requires fact_1 { (3 ≤ length input.now) × (length input.now < 2 ^ 32) }
-    requires fact_2 { count ≤ length out.old }
+    requires points { (3 ≤ length input.now) × (length input.now < 2 ^ 32) }
+    requires room { count ≤ length out.old }
     ensures { (result ≡ next_of fraction ratio count)
         × (out.new ≡ resampled input.now ratio fraction count ++ drop count out.old) }
 {
     if input.len() < 4 {
-        let a = input[0];
-        let b = input[1];
-        let c = input[2];
+        let (a, b, c) = (input[0], input[1], input[2]);
         let points = [a, b, c, fourth(a, b, c)];
-        return fill(&points, out, count, ratio, fraction);
+        fill(&points, out, count, ratio, fraction)
+    } else {
+        fill(input, out, count, ratio, fraction)
     }
-    fill(input, out, count, ratio, fraction)
 }
 
 // How many samples of the input a run of count outputs goes past.
@@ -44,66 +46,55 @@ fn fourth(a: f32, b: f32, c: f32) -> f32
 
 // The outputs from four points or more, and the next fraction.
 fn fill(input: &[f32], out: &mut [f32], count: u32, ratio: f32, fraction: f32) -> f32
-    requires fact_1 { (4 ≤ length input.now) × (length input.now < 2 ^ 32) }
-    requires fact_2 { count ≤ length out.old }
+    requires points { (4 ≤ length input.now) × (length input.now < 2 ^ 32) }
+    requires room { count ≤ length out.old }
     ensures { (result ≡ next_of fraction ratio count)
         × (out.new ≡ samples input.now ratio fraction count ++ drop count out.old) }
 {
     if in_step(input.len(), count, ratio, fraction) {
-        return fill_in_step(input, out, count, ratio, fraction);
+        fill_in_step(input, out, count, ratio, fraction)
+    } else {
+        fill_between(input, out, count, ratio, fraction)
     }
-    fill_between(input, out, count, ratio, fraction)
 }
 
 // Whether every place is its output's own number: ratio 1, fraction 0, and points enough.
 fn in_step(points: usize, count: u32, ratio: f32, fraction: f32) -> bool
     ensures { T result → InStep points count ratio fraction }
 {
-    if floats::to_bits(ratio) != 0x3f80_0000 {
-        return false;
-    }
-    if floats::to_bits(fraction) != 0 {
-        return false;
-    }
-    if 0x100_0000 < count {
-        return false;
-    }
-    (count as usize) + 3 <= points
+    floats::to_bits(ratio) == ONE_BITS
+        && floats::to_bits(fraction) == 0
+        && count <= 0x100_0000
+        && count as usize + 3 <= points
 }
 
 // The loop where every place is its output's own number: output k is the cubic through points k to k + 3 at 0.
 fn fill_in_step(input: &[f32], out: &mut [f32], count: u32, ratio: f32, fraction: f32) -> f32
-    requires fact_1 { InStep (length input.now) count ratio fraction }
-    requires fact_2 { count ≤ length out.old }
+    requires in_step { InStep (length input.now) count ratio fraction }
+    requires room { count ≤ length out.old }
     ensures { (result ≡ next_of fraction ratio count)
         × (out.new ≡ samples input.now ratio fraction count ++ drop count out.old) }
 {
-    let n = count as usize;
-    let mut k = 0usize;
-    while k < n {
+    for k in 0..count as usize {
         out[k] = interpolate(input[k], input[k + 1], input[k + 2], input[k + 3], 0.0);
-        k += 1usize;
     }
     0.0
 }
 
 // The loop for any places. Each place's whole part is looked for a ratio further than the last one's.
 fn fill_between(input: &[f32], out: &mut [f32], count: u32, ratio: f32, fraction: f32) -> f32
-    requires fact_1 { (4 ≤ length input.now) × (length input.now < 2 ^ 32) }
-    requires fact_2 { count ≤ length out.old }
+    requires points { (4 ≤ length input.now) × (length input.now < 2 ^ 32) }
+    requires room { count ≤ length out.old }
     ensures { (result ≡ next_of fraction ratio count)
         × (out.new ≡ samples input.now ratio fraction count ++ drop count out.old) }
 {
     let stride = floats::as_usize(ratio);
     let mut near = 0usize;
-    let mut k = 0u32;
-    while k < count {
+    for k in 0..count {
         let pos = place(fraction, ratio, k);
         let whole = whole_near(pos, near);
-        let v = sample(input, pos, whole);
-        out[k as usize] = v;
-        near = std::num::wrapping_add_usize(whole, stride);
-        k += 1u32;
+        out[k as usize] = sample(input, pos, whole);
+        near = whole.wrapping_add(stride);
     }
     let end = place(fraction, ratio, count);
     end - floats::floor(end)
@@ -114,8 +105,7 @@ fn sample(input: &[f32], pos: f32, whole: usize) -> f32
     requires { (4 ≤ length input.now) × (length input.now < 2 ^ 32) × (whole ≡ to_unsigned 64 pos) }
     ensures { result ≡ sample_from input.now pos (index_at input.now pos) }
 {
-    let last = input.len() - 4;
-    let i = least(whole, last);
+    let i = whole.min(input.len() - 4);
     let t = at_most_one(pos - as_f32(i as u32));
     interpolate(input[i], input[i + 1], input[i + 2], input[i + 3], t)
 }
@@ -151,9 +141,10 @@ fn as_f32(n: u32) -> f32
     ensures { result ≡ of_int binary32 (pos n) }
 {
     if n <= 0x100_0000 {
-        return n as f32;
+        n as f32
+    } else {
+        std::num::nearest_u32_to_f32(n)
     }
-    std::num::nearest_u32_to_f32(n)
 }
 
 // Rust's `x.min(1.0)`.
@@ -161,13 +152,6 @@ fn at_most_one(x: f32) -> f32
     ensures { result ≡ min_of x one }
 {
     if x <= 1.0 { x } else { 1.0 }
-}
-
-// Rust's `a.min(b)` on usize.
-fn least(a: usize, b: usize) -> usize
-    ensures { result ≡ min a b }
-{
-    if a < b { a } else { b }
 }
 
 // The cubic through p1 and p2 at t.

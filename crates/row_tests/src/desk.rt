@@ -5,27 +5,17 @@ ghost use Rattle.row_tests.specs.Desk.{mix_whole, mixes_whole, sinks_whole, list
 use crate::limits::{row_within, rows_within};
 
 // used and buffer_count
-const MIX_FIELDS: [usize; 2] = [0, 1];
-
-const MIX_LIMITS: [u32; 2] = [1, 24];
+const MIX_LIMITS: [(usize, u32); 2] = [(0, 1), (1, 24)];
 
 // used, device, input count and downmix given
-const SINK_FIELDS: [usize; 4] = [0, 1, 2, 9];
-
-const SINK_LIMITS: [u32; 4] = [1, 1, 6, 1];
+const SINK_LIMITS: [(usize, u32); 4] = [(0, 1), (1, 1), (2, 6), (9, 1)];
 
 // Mix m, where the mixes before it have `offset` buffers.
 fn mix_whole(mixes: &[u32], m: usize, offset: u32) -> bool
     requires { m * 5 + 5 ≤ length mixes.now }
     ensures { result ≡ mix_whole mixes.now m offset }
 {
-    if !row_within(mixes, m * 5, 5, &MIX_FIELDS, &MIX_LIMITS) {
-        return false;
-    }
-    if mixes[m * 5 + 4] != offset {
-        return false;
-    }
-    true
+    row_within(mixes, m * 5, 5, &MIX_LIMITS) && mixes[m * 5 + 4] == offset
 }
 
 pub fn mixes_whole(mixes: &[u32], n: usize) -> bool
@@ -33,14 +23,12 @@ pub fn mixes_whole(mixes: &[u32], n: usize) -> bool
     requires n_in_bounds { n * 5 ≤ length mixes.now }
     ensures { result ≡ mixes_whole n mixes.now }
 {
-    let mut m = 0;
     let mut offset: u32 = 0; // the buffers of the mixes before m
-    while m < n {
+    for m in 0..n {
         if !mix_whole(mixes, m, offset) {
             return false;
         }
         offset += mixes[m * 5 + 1];
-        m += 1;
     }
     true
 }
@@ -49,7 +37,7 @@ pub fn sinks_whole(sinks: &[u32], n: usize) -> bool
     requires { n * 10 ≤ length sinks.now }
     ensures { result ≡ sinks_whole n sinks.now }
 {
-    rows_within(sinks, 0, n, 10, &SINK_FIELDS, &SINK_LIMITS)
+    rows_within(sinks, 0, n, 10, &SINK_LIMITS)
 }
 
 // The rows of the splitters, and behind them those of the destinations.
@@ -57,11 +45,6 @@ pub fn lists_whole(lists: &[u32], ns: usize, nd: u32) -> bool
     requires { ns * 129 + nd * 2 ≤ length lists.now }
     ensures { result ≡ lists_whole ns nd lists.now }
 {
-    let first = [0usize];
-    let longest = [nd];
-    if !rows_within(lists, 0, ns, 129, &first, &longest) {
-        return false;
-    }
-    let flag = [1u32];
-    rows_within(lists, ns * 129, nd as usize, 2, &first, &flag)
+    rows_within(lists, 0, ns, 129, &[(0, nd)])
+        && rows_within(lists, ns * 129, nd as usize, 2, &[(0, 1)])
 }

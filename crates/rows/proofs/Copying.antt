@@ -1,7 +1,7 @@
 -- A copy of n elements of `s`, from index `from`, to index `to` of a list: the first k are there after k turns.
 -- Assumes nothing.
 use mathlib.Core.Path.{◌≡◌, ap, sym, ◌∙◌}
-use mathlib.Core.List.{List, [], ◌∷◌}
+use mathlib.Core.List.{List, [], ◌∷◌, ◌++◌}
 use Prim.Native.Nat.{ℕ, ◌+◌, ◌≤◌, ◌<◌}
 use native.Mathlib.Omega.{arith}
 use lib.ListN.{length, set, get_or, length-set}
@@ -19,19 +19,22 @@ module _ {ℓ} {A : Type ℓ} where
       record { count = omega arith; size = omega arith; copied = sym (put_part 0 to d (omega arith)) }
 
   module _ {d₀ : List A} {to : ℕ} {s : List A} {from n : ℕ} {d : List A} {k : ℕ} (p : Copying d₀ to s from n d k) where
-    pub more : (z : A) (i j : ℕ) → i ≡ to + k → j ≡ from + k → k < n → to + n ≤ length d₀ → from + n ≤ length s
-        → Copying d₀ to s from n (set d i (get_or s j z)) (k + 1)
-    more z i j ei ej h hd hs =
+    -- by one element x, which `s` has in place j
+    pub more : {x : A} (i j : ℕ) → i ≡ to + k → j ≡ from + k → x ≡ get_or s j x → k < n → to + n ≤ length d₀ → from + n ≤ length s
+        → Copying d₀ to s from n (set d i x) (k + 1)
+    more {x} i j ei ej ex h hd hs =
         let long : length (part k from s) ≡ k = length_part k from s (omega arith) in
         let there : to + k < length d = omega (arith, p.size) in
+        let found : x ≡ get_or s (from + k) x = ex ∙ ap (λ (m : ℕ). get_or s m x) ej in
         let fits : to + length (part k from s) + 1 ≤ length d₀ = omega arith in
         record {
           count = omega arith;
           size = simp length-set p.size;
-          copied = rw (ei, ej) (put_one d (to + k) (get_or s (from + k) z) there)
-              ∙ (λ m. put (p.copied m) (to + sym long m) (get_or s (from + k) z ∷ []))
-              ∙ put_put d₀ to (part k from s) (get_or s (from + k) z ∷ []) fits
-              ∙ ap (put d₀ to) (sym (part_more k from s z (omega arith)));
+          copied = rw ei (put_one d (to + k) x there)
+              ∙ (λ m. put (p.copied m) (to + sym long m) (x ∷ []))
+              ∙ put_put d₀ to (part k from s) (x ∷ []) fits
+              ∙ ap (λ (y : A). put d₀ to (part k from s ++ y ∷ [])) found
+              ∙ ap (put d₀ to) (sym (part_more k from s x (omega arith)));
         }
 
     full : n ≤ k → k ≡ n

@@ -7,6 +7,7 @@ use Prim.Native.Nat.{ℕ, zero, suc, ◌+◌, ◌*◌, ◌≤◌, ◌<◌}
 use Rattle.std.proofs.Math.Numerals.{add-one}
 use Rattle.std.proofs.Math.Nat.{suc-mul}
 use native.Mathlib.Omega.{arith}
+use Rattle.std.proofs.Math.ListN.{replicate}
 use Rattle.rows.specs.Rows.{put, length_put, put_part, put_one, put_put, put_more, part}
 use Rattle.rows.specs.Folds.{row_end}
 
@@ -27,6 +28,12 @@ module _ {ℓ} {A : Type ℓ} where
   unfolding table
   length_table zero f = refl
   length_table (suc n) f = ap suc (length_table n (λ k. f (suc k)))
+
+  -- a table of one value
+  pub table_same : (n : ℕ) (x : A) → table n (λ _. x) ≡ replicate n x
+  unfolding table
+  table_same zero x = refl
+  table_same (suc n) x = ap (λ (xs : List A). x ∷ xs) (table_same n x)
 
   pub get_d_table : (n : ℕ) (f : ℕ → A) (j : ℕ) (z : A) → j < n → get_or (table n f) j z ≡ f j
   unfolding table

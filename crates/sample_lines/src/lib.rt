@@ -15,14 +15,9 @@ fn print_sample(rt: &impl Print, x: f32) -> io::Result<()> {
 
 // The first n of s, or all of it. An error is that of a write.
 pub fn print_samples(rt: &impl Print, s: &[f32], n: usize) -> io::Result<()> {
-    let mut k = 0;
-    while k < s.len() {
-        if n <= k {
-            return Ok(());
-        }
-        print_sample(rt, s[k])?;
+    for (k, x) in s[..n.min(s.len())].iter().enumerate() {
+        print_sample(rt, *x)?;
         print_gap(rt, k)?;
-        k += 1;
     }
     Ok(())
 }

@@ -8,90 +8,12 @@ ghost use Rattle.splitters.specs.Lists.{lists, splitter_step, splitters_from};
 ghost use Rattle.splitters.specs.Destinations.{stride_of, left, destination_step, destinations_from};
 ghost use Rattle.splitters.specs.Section.{Sized, records_from, records_of, splitters_of};
 
+use splitters::{DESTINATION_MAGIC, SPLITTER_HEADER_MAGIC, SPLITTER_MAGIC};
+
 #[derive(Clone, Copy)]
 pub struct Reader<'a> {
     pub block: &'a [u8],
     pub at: usize,
-}
-
-// The word at a distance from a place; past the end it is 0.
-fn word_at(d: &[u8], at: usize, o: usize) -> u32
-    ensures { result ≡ field_at 4 d.now (at + o) }
-{
-    if at < 0x8000_0000_0000_0000 {
-        if o < 0x8000_0000_0000_0000 {
-            return fields::u32_at(d, at + o);
-        }
-    }
-    0
-}
-
-// A reader at the block's first byte.
-pub fn new<'a>(block: &'a [u8]) -> Reader<'a>
-    ensures { (result.block ≡ block.entry) × (result.at ≡ 0) }
-{
-    Reader { block, at: 0 }
-}
-
-// The reader at another place of its block.
-pub fn moved<'a>(r: Reader<'a>, at: usize) -> Reader<'a>
-    ensures { (result.block ≡ r.entry.block) × (result.at ≡ at) }
-{
-    Reader { block: r.block, at }
-}
-
-// The word at a distance from the reader's place.
-pub fn field<'a>(r: Reader<'a>, o: usize) -> u32
-    ensures { result ≡ field_at 4 r.entry.block.now (r.entry.at + o) }
-{
-    word_at(r.block, r.at, o)
-}
-
-// The splitter's record at the reader's place is read: the reader at the record behind it.
-pub fn next_splitter<'a>(r: Reader<'a>, ns: usize, nd: usize, words: &mut [u32]) -> Reader<'a>
-    requires { (r.at < 2 ^ 63) × (nd ≤ 128) × (ns * 129 ≤ length words.old) }
-    ensures { (result.block ≡ r.entry.block)
-        × (lists result.at words.new ≡ splitter_step ns nd r.entry.block.now (lists r.entry.at words.old))
-        × (result.at ≤ r.entry.at + 540) }
-{
-    let next = splitters::read_splitter(r.block, r.at, ns, nd, words);
-    Reader {
-        block: r.block,
-        at: next,
-    }
-}
-
-// At most `count` splitters from the reader's place on: the reader where they end.
-pub fn all_splitters<'a>(
-    r: Reader<'a>,
-    count: u32,
-    ns: usize,
-    nd: usize,
-    words: &mut [u32],
-) -> Reader<'a>
-    requires { (r.at < 2 ^ 63 + 540) × (nd ≤ 128) × (ns * 129 ≤ length words.old) }
-    ensures { (result.block ≡ r.entry.block)
-        × (lists result.at words.new ≡ splitters_from ns nd r.entry.block.now count r.entry.at words.old)
-        × (result.at < 2 ^ 63 + 540) }
-{
-    let mut q = r;
-    let mut k: u32 = 0;
-    while k < count {
-        if field(q, 0) != splitters::SPLITTER_MAGIC {
-            return q;
-        }
-        q = next_splitter(q, ns, nd, words);
-        k += 1;
-    }
-    q
-}
-
-// The size of the destinations' records from the reader's place on, of which `count` are announced.
-pub fn stride<'a>(r: Reader<'a>, count: u32) -> usize
-    requires { r.at < 2 ^ 63 + 540 }
-    ensures { (result ≡ stride_of r.entry.block.now r.entry.at count) × (result ≤ 256) }
-{
-    splitters::find_stride(r.block, r.at, count)
 }
 
 // The destination's record at a place is read: where the next begins, `size` bytes on.
@@ -112,75 +34,129 @@ fn destination_at(
     at + size
 }
 
-// The destination's record at the reader's place is read: the reader at the record behind it, `size` bytes on.
-pub fn next_destination<'a>(
-    r: Reader<'a>,
-    size: usize,
-    ns: usize,
-    nd: usize,
-    words: &mut [u32],
-    floats: &mut [f32],
-) -> Reader<'a>
-    requires { (r.at < 2 ^ 63) × (size ≤ 256) × Sized ns nd words.old floats.old }
-    ensures { (result.block ≡ r.entry.block)
-        × (left result.at words.new floats.new
-        ≡ destination_step ns nd r.entry.block.now size (left r.entry.at words.old floats.old))
-        × (result.at ≡ r.entry.at + size) }
-{
-    let next = destination_at(r.block, r.at, size, ns, nd, words, floats);
-    Reader {
-        block: r.block,
-        at: next,
+impl<'a> Reader<'a> {
+    // A reader at the block's first byte.
+    pub fn new(block: &'a [u8]) -> Reader<'a>
+        ensures { (result.block ≡ block.entry) × (result.at ≡ 0) }
+    {
+        Reader { block, at: 0 }
     }
-}
 
-// At most `count` destinations from the reader's place on, each `size` bytes: the reader where they end.
-pub fn all_destinations<'a>(
-    r: Reader<'a>,
-    count: u32,
-    size: usize,
-    ns: usize,
-    nd: usize,
-    words: &mut [u32],
-    floats: &mut [f32],
-) -> Reader<'a>
-    requires { (r.at < 2 ^ 63 + 540) × (size ≤ 256) × Sized ns nd words.old floats.old }
-    ensures { (result.block ≡ r.entry.block)
-        × (left result.at words.new floats.new
-        ≡ destinations_from ns nd r.entry.block.now size count r.entry.at words.old floats.old)
-        × (result.at < 2 ^ 63 + 540) }
-{
-    let mut q = r;
-    let mut k: u32 = 0;
-    while k < count {
-        if field(q, 0) != splitters::DESTINATION_MAGIC {
-            return q;
+    // The reader at another place of its block.
+    pub fn moved(self, at: usize) -> Reader<'a>
+        ensures { (result.block ≡ self.entry.block) × (result.at ≡ at) }
+    {
+        Reader { at, ..self }
+    }
+
+    // The word at a distance from the reader's place; past the end it is 0.
+    pub fn field(self, o: usize) -> u32
+        ensures { result ≡ field_at 4 self.entry.block.now (self.entry.at + o) }
+    {
+        fields::u32_at(self.block, self.at.saturating_add(o))
+    }
+
+    // The splitter's record at the reader's place is read: the reader at the record behind it.
+    pub fn next_splitter(self, ns: usize, nd: usize, words: &mut [u32]) -> Reader<'a>
+        requires { (self.at < 2 ^ 63) × (nd ≤ 128) × (ns * 129 ≤ length words.old) }
+        ensures { (result.block ≡ self.entry.block)
+            × (lists result.at words.new ≡ splitter_step ns nd self.entry.block.now (lists self.entry.at words.old))
+            × (result.at ≤ self.entry.at + 540) }
+    {
+        let at = splitters::read_splitter(self.block, self.at, ns, nd, words);
+        Reader { at, ..self }
+    }
+
+    // At most `count` splitters from the reader's place on: the reader where they end.
+    pub fn all_splitters(self, count: u32, ns: usize, nd: usize, words: &mut [u32]) -> Reader<'a>
+        requires { (self.at < 2 ^ 63 + 540) × (nd ≤ 128) × (ns * 129 ≤ length words.old) }
+        ensures { (result.block ≡ self.entry.block)
+            × (lists result.at words.new ≡ splitters_from ns nd self.entry.block.now count self.entry.at words.old)
+            × (result.at < 2 ^ 63 + 540) }
+    {
+        let mut q = self;
+        for k in 0..count {
+            if q.field(0) != SPLITTER_MAGIC {
+                return q;
+            }
+            q = q.next_splitter(ns, nd, words);
         }
-        q = next_destination(q, size, ns, nd, words, floats);
-        k += 1;
+        q
     }
-    q
-}
 
-// Splitters from the reader's place on, and from where they end destinations: where the section ends.
-pub fn records<'a>(
-    r: Reader<'a>,
-    splitter_count: u32,
-    destination_count: u32,
-    ns: usize,
-    nd: usize,
-    words: &mut [u32],
-    floats: &mut [f32],
-) -> usize
-    requires { (r.at < 2 ^ 63 + 540) × Sized ns nd words.old floats.old }
-    ensures { (left result words.new floats.new
-        ≡ records_from ns nd r.entry.block.now r.entry.at splitter_count destination_count
-        words.old floats.old) × (result < 2 ^ 63 + 600) }
-{
-    let q = all_splitters(r, splitter_count, ns, nd, words);
-    let size = stride(q, destination_count);
-    let e = all_destinations(q, destination_count, size, ns, nd, words, floats);
-    splitters::rounded_up(e.at)
+    // The size of the destinations' records from the reader's place on, of which `count` are announced.
+    pub fn stride(self, count: u32) -> usize
+        requires { self.at < 2 ^ 63 + 540 }
+        ensures { (result ≡ stride_of self.entry.block.now self.entry.at count) × (result ≤ 256) }
+    {
+        splitters::find_stride(self.block, self.at, count)
+    }
+
+    // The destination's record at the reader's place is read: the reader at the record behind it, `size` bytes on.
+    pub fn next_destination(
+        self,
+        size: usize,
+        ns: usize,
+        nd: usize,
+        words: &mut [u32],
+        floats: &mut [f32],
+    ) -> Reader<'a>
+        requires { (self.at < 2 ^ 63) × (size ≤ 256) × Sized ns nd words.old floats.old }
+        ensures { (result.block ≡ self.entry.block)
+            × (left result.at words.new floats.new
+            ≡ destination_step ns nd self.entry.block.now size (left self.entry.at words.old floats.old))
+            × (result.at ≡ self.entry.at + size) }
+    {
+        let at = destination_at(self.block, self.at, size, ns, nd, words, floats);
+        Reader { at, ..self }
+    }
+
+    // At most `count` destinations from the reader's place on, each `size` bytes: the reader where they end.
+    pub fn all_destinations(
+        self,
+        count: u32,
+        size: usize,
+        ns: usize,
+        nd: usize,
+        words: &mut [u32],
+        floats: &mut [f32],
+    ) -> Reader<'a>
+        requires { (self.at < 2 ^ 63 + 540) × (size ≤ 256) × Sized ns nd words.old floats.old }
+        ensures { (result.block ≡ self.entry.block)
+            × (left result.at words.new floats.new
+            ≡ destinations_from ns nd self.entry.block.now size count self.entry.at words.old floats.old)
+            × (result.at < 2 ^ 63 + 540) }
+    {
+        let mut q = self;
+        for k in 0..count {
+            if q.field(0) != DESTINATION_MAGIC {
+                return q;
+            }
+            q = q.next_destination(size, ns, nd, words, floats);
+        }
+        q
+    }
+
+    // Splitters from the reader's place on, and from where they end destinations: where the section ends.
+    pub fn records(
+        self,
+        splitter_count: u32,
+        destination_count: u32,
+        ns: usize,
+        nd: usize,
+        words: &mut [u32],
+        floats: &mut [f32],
+    ) -> usize
+        requires { (self.at < 2 ^ 63 + 540) × Sized ns nd words.old floats.old }
+        ensures { (left result words.new floats.new
+            ≡ records_from ns nd self.entry.block.now self.entry.at splitter_count destination_count
+            words.old floats.old) × (result < 2 ^ 63 + 600) }
+    {
+        let q = self.all_splitters(splitter_count, ns, nd, words);
+        let size = q.stride(destination_count);
+        let e = q.all_destinations(destination_count, size, ns, nd, words, floats);
+        e.at.next_multiple_of(0x10)
+    }
 }
 
 // The section behind its header, by one reader. Its contract says nothing of a reader.
@@ -189,21 +165,12 @@ fn read_section(d: &[u8], ns: usize, nd: usize, words: &mut [u32], floats: &mut 
     ensures { (left result words.new floats.new
         ≡ records_of ns nd d.now words.old floats.old) × (result < 2 ^ 63 + 600) }
 {
-    let r = new(d);
-    let splitter_count = field(r, 4);
-    let destination_count = field(r, 8);
-    records(
-        moved(r, 0x20),
-        splitter_count,
-        destination_count,
-        ns,
-        nd,
-        words,
-        floats,
-    )
+    let r = Reader::new(d);
+    r.moved(0x20)
+        .records(r.field(4), r.field(8), ns, nd, words, floats)
 }
 
-// The whole section: how many bytes it takes. The contract of `splitters::update_splitters`.
+// The whole section: how many bytes it takes.
 pub fn update_splitters(
     d: &[u8],
     ns: usize,
@@ -215,13 +182,8 @@ pub fn update_splitters(
     ensures { (left result words.new floats.new
         ≡ splitters_of ns nd d.now words.old floats.old) × (result < 2 ^ 63 + 600) }
 {
-    if ns == 0 {
-        return 0;
-    }
-    if nd == 0 {
-        return 0;
-    }
-    if fields::u32_at(d, 0) != splitters::SPLITTER_HEADER_MAGIC {
+    let headed = fields::u32_at(d, 0) == SPLITTER_HEADER_MAGIC;
+    if ns == 0 || nd == 0 || !headed {
         return 0;
     }
     read_section(d, ns, nd, words, floats)

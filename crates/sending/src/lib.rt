@@ -3,194 +3,86 @@
 
 ghost use Rattle.std.specs.Prelude.{◌≡◌, ◌+◌, ◌*◌, ◌≤◌, length};
 ghost use Rattle.desk_rows.specs.DeskRows.{Mixes, Lists};
-ghost use Rattle.voice_sends.specs.Sending.{Ids, Rowed, ramped_rows, passing, to_mix, by_splitter, sends_of};
+ghost use Rattle.voice_sends.specs.Sending.{Ids, passing, to_mix, by_splitter, sends_of};
 ghost use Rattle.params.specs.Sizes.{Allowed};
 ghost use Rattle.state.specs.State.{mixes_of, mix_words_in, list_words_in, words_of, floats_of};
 ghost use Rattle.sending.specs.Sending.{route_out, gains_at, gains_back, sent_at, sent_back, routed, routed_floats};
 
+use desk_rows::{Desk, ListRows, MixRows};
 use params::Params;
+use voice_sends::Rows;
 
 // To mix m, by nc resources, which begin at a in the floats.
 fn to_mix(
     buffers: &mut [f32],
-    n: usize,
-    out: &[f32],
-    channels: usize,
+    rows: &Rows,
     ids: [u32; 6],
-    mixes: &[u32],
-    nm: usize,
+    mixes: &MixRows,
     m: usize,
     floats: &mut [f32],
     nc: usize,
     a: usize,
 )
-    requires fact_1 { Rowed n channels out.now }
-    requires fact_2 { Ids nc ids }
-    requires fact_3 { Mixes nm mixes.now }
-    requires fact_4 { a + nc * 48 ≤ length floats.old }
-    ensures { passing buffers.new floats.new ≡ gains_back a floats.old (to_mix n out.now channels ids mixes.now nm m (gains_at nc a floats.old buffers.old)) }
+    requires ids { Ids nc ids }
+    requires resources { a + nc * 48 ≤ length floats.old }
+    ensures { passing buffers.new floats.new ≡ gains_back a floats.old (to_mix rows.now.n rows.now.samples.now rows.now.channels ids mixes.now.words.now mixes.now.n m (gains_at nc a floats.old buffers.old)) }
 {
     let e = a + nc * 48;
-    voice_sends::to_mix(
-        buffers,
-        n,
-        out,
-        channels,
-        ids,
-        mixes,
-        nm,
-        m,
-        &mut floats[a..e],
-        nc,
-    );
+    voice_sends::to_mix(buffers, rows, ids, mixes, m, &mut floats[a..e], nc);
 }
 
-// By splitter s and its nd destinations, which begin at b in the floats.
+// By splitter s and its destinations, which begin at b in the floats.
 fn by_splitter(
     buffers: &mut [f32],
-    n: usize,
-    out: &[f32],
-    channels: usize,
-    mixes: &[u32],
-    nm: usize,
-    lists: &[u32],
-    ns: usize,
-    nd: usize,
+    rows: &Rows,
+    desk: &Desk,
     s: usize,
     floats: &mut [f32],
     b: usize,
 )
-    requires fact_1 { Rowed n channels out.now }
-    requires fact_2 { Mixes nm mixes.now }
-    requires fact_3 { Lists ns nd lists.now }
-    requires fact_4 { b + nd * 48 ≤ length floats.old }
-    ensures { passing buffers.new floats.new ≡ gains_back b floats.old (by_splitter n out.now channels mixes.now nm lists.now ns nd s (gains_at nd b floats.old buffers.old)) }
+    requires { b + desk.now.lists.nd * 48 ≤ length floats.old }
+    ensures { passing buffers.new floats.new ≡ gains_back b floats.old (by_splitter rows.now.n rows.now.samples.now rows.now.channels desk.now.mixes.words.now desk.now.mixes.n desk.now.lists.words.now desk.now.lists.ns desk.now.lists.nd s (gains_at desk.now.lists.nd b floats.old buffers.old)) }
 {
-    let e = b + nd * 48;
-    voice_sends::by_splitter(
-        buffers,
-        n,
-        out,
-        channels,
-        mixes,
-        nm,
-        lists,
-        ns,
-        nd,
-        s,
-        &mut floats[b..e],
-    );
+    let e = b + desk.lists.nd * 48;
+    voice_sends::by_splitter(buffers, rows, desk, s, &mut floats[b..e]);
 }
 
 // To its mix, or where it names none by its splitter.
 fn route(
     buffers: &mut [f32],
-    n: usize,
-    out: &[f32],
-    channels: usize,
+    rows: &Rows,
+    desk: &Desk,
     ids: [u32; 6],
     mix_id: u32,
     splitter_id: u32,
-    mixes: &[u32],
-    nm: usize,
-    lists: &[u32],
-    ns: usize,
-    nd: usize,
     floats: &mut [f32],
     nc: usize,
     a: usize,
     b: usize,
 )
-    requires fact_1 { Rowed n channels out.now }
-    requires fact_2 { Ids nc ids }
-    requires fact_3 { Mixes nm mixes.now }
-    requires fact_4 { Lists ns nd lists.now }
-    requires fact_5 { (a + nc * 48 ≤ b) × (b + nd * 48 ≤ length floats.old) }
-    ensures { passing buffers.new floats.new ≡ sent_back a b floats.old (sends_of n out.now channels ids mix_id splitter_id mixes.now nm lists.now ns nd (sent_at nc a nd b floats.old buffers.old)) }
+    requires ids { Ids nc ids }
+    requires apart { a + nc * 48 ≤ b }
+    requires fits { b + desk.now.lists.nd * 48 ≤ length floats.old }
+    ensures { passing buffers.new floats.new ≡ sent_back a b floats.old (sends_of rows.now.n rows.now.samples.now rows.now.channels ids mix_id splitter_id desk.now.mixes.words.now desk.now.mixes.n desk.now.lists.words.now desk.now.lists.ns desk.now.lists.nd (sent_at nc a desk.now.lists.nd b floats.old buffers.old)) }
 {
     if mix_id == 0x7fff_ffff {
-        by_splitter(
+        by_splitter(buffers, rows, desk, splitter_id as usize, floats, b);
+    } else {
+        to_mix(
             buffers,
-            n,
-            out,
-            channels,
-            mixes,
-            nm,
-            lists,
-            ns,
-            nd,
-            splitter_id as usize,
+            rows,
+            ids,
+            &desk.mixes,
+            mix_id as usize,
             floats,
-            b,
+            nc,
+            a,
         );
-        return;
     }
-    to_mix(
-        buffers,
-        n,
-        out,
-        channels,
-        ids,
-        mixes,
-        nm,
-        mix_id as usize,
-        floats,
-        nc,
-        a,
-    );
 }
 
-// The ramp of the voice's rows, then its sends.
-fn ramp_and_route(
-    out: &mut [f32],
-    n: usize,
-    channels: usize,
-    ids: [u32; 6],
-    from: f32,
-    to: f32,
-    mix_id: u32,
-    splitter_id: u32,
-    mixes: &[u32],
-    nm: usize,
-    lists: &[u32],
-    ns: usize,
-    nd: usize,
-    floats: &mut [f32],
-    nc: usize,
-    a: usize,
-    b: usize,
-    buffers: &mut [f32],
-)
-    requires fact_1 { Rowed n channels out.old }
-    requires fact_2 { Ids nc ids }
-    requires fact_3 { Mixes nm mixes.now }
-    requires fact_4 { Lists ns nd lists.now }
-    requires fact_5 { (a + nc * 48 ≤ b) × (b + nd * 48 ≤ length floats.old) }
-    ensures { passing buffers.new floats.new ≡ sent_back a b floats.old (sends_of n (ramped_rows from to n channels out.old) channels ids mix_id splitter_id mixes.now nm lists.now ns nd (sent_at nc a nd b floats.old buffers.old)) }
-{
-    voice_sends::ramp_rows(out, n, channels, from, to);
-    route(
-        buffers,
-        n,
-        out,
-        channels,
-        ids,
-        mix_id,
-        splitter_id,
-        mixes,
-        nm,
-        lists,
-        ns,
-        nd,
-        floats,
-        nc,
-        a,
-        b,
-    );
-}
-
-// The voice's ramp, then its sends by the mixes, lists and gains of the state. `out` has a row of samples for each of its channels, one behind the
-// other; what it holds afterwards is free.
+// The voice's ramp, then its sends by the mixes, lists and gains of the state. `out` has a row of samples for each of its channels, one
+// behind the other; what it holds afterwards is free.
 pub fn send(
     p: Params,
     mix_id: u32,
@@ -215,30 +107,35 @@ pub fn send(
 {
     let at = state::places_of(p);
     let n = p.sample_count as usize;
-    let c = channels as usize;
-    let w = c * n;
-    let mixes = at.mix_words;
-    let sinks = at.sink_words;
-    let lists = at.list_words;
-    let end = at.words;
-    ramp_and_route(
-        &mut out[..w],
+    let channels = channels as usize;
+    let front = &mut out[..channels * n];
+    voice_sends::ramp_rows(front, n, channels, from, to);
+    let rows = Rows {
+        samples: front,
         n,
-        c,
+        channels,
+    };
+    let desk = Desk {
+        mixes: MixRows {
+            words: &words[at.mix_words..at.sink_words],
+            n: at.mixes,
+        },
+        lists: ListRows {
+            words: &words[at.list_words..at.words],
+            ns: p.splitters as usize,
+            nd: p.splitter_destinations as usize,
+        },
+    };
+    route(
+        buffers,
+        &rows,
+        &desk,
         ids,
-        from,
-        to,
         mix_id,
         splitter_id,
-        &words[mixes..sinks],
-        at.mixes,
-        &words[lists..end],
-        p.splitters as usize,
-        p.splitter_destinations as usize,
         floats,
         p.voices as usize,
         at.resource_floats,
         at.destination_floats,
-        buffers,
     );
 }

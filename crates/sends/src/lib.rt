@@ -18,10 +18,8 @@ pub fn send_moving(
     requires fact_2 { (count ≤ length from.now) × (count ≤ length to.now) }
     ensures { buffers.new ≡ spread (gain_at from.now) (gain_at to.now) offset n src.now count buffers.old }
 {
-    let mut j = 0;
-    while j < count {
+    for j in 0..count {
         gain::mix_into(buffers, offset + j, n, src, from[j], to[j]);
-        j += 1;
     }
 }
 
@@ -39,10 +37,8 @@ pub fn send_scaled(
     requires fact_2 { count ≤ length volumes.now }
     ensures { buffers.new ≡ spread (scaled_at volume volumes.now) (scaled_at volume volumes.now) offset n src.now count buffers.old }
 {
-    let mut j = 0;
-    while j < count {
+    for j in 0..count {
         let v = volume * volumes[j];
         gain::mix_into(buffers, offset + j, n, src, v, v);
-        j += 1;
     }
 }

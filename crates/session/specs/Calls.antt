@@ -1,5 +1,5 @@
 -- Laws of the calls in a session's input, one by one and all of them. Assumes nothing.
-use Rattle.std.specs.Prelude.{◌≡◌, refl, Bool, true, List, ℕ, suc, ◌+◌, ◌-◌, ◌≤◌, ◌<◌, leb, eqb, length, drop}
+use Rattle.std.specs.Prelude.{◌≡◌, refl, Bool, true, Option, Some, None, List, ℕ, suc, ◌+◌, ◌-◌, ◌≤◌, ◌<◌, leb, eqb, length, drop}
 use Rattle.std.proofs.Math.Path.{ap, sym}
 use Rattle.std.proofs.Common.{◌∙◌, length-drop, drop-drop}
 use Rattle.std.proofs.Math.Bool.{false}
@@ -8,18 +8,18 @@ use borrow.Author.Tests.{leb-true, le-leb, lt-leb, lt-ltb, eq-eqb, ne_eqb, eqb-t
 use Rattle.fields.specs.Fields.{field_at}
 use Rattle.fields.specs.Reads.{reach}
 use Rattle.session.specs.declared.input.Call.{Call}
-use Rattle.session.specs.declared.input.Call.TheVariants.{Render, Update, Nothing}
+use Rattle.session.specs.declared.input.Call.TheVariants.{Render, Update}
 use Rattle.session.specs.Input.{pick, update_of, call_of, size_of}
 use Rattle.session.specs.Question.{calls_whole}
 
 -- ---- the call at the front of d: its kind k, the expected size e and the input's size n
 
 module _ (d : List ℕ) {k : ℕ} (ek : k ≡ field_at 1 d 0) where
-  pub call_render : k ≡ 1 → Render ≡ call_of d
+  pub call_render : k ≡ 1 → Some Render ≡ call_of d
   unfolding call_of
   call_render h = simp (eq-eqb _ _ (sym ek ∙ h))
 
-  pub call_other : (k ≡ 1 → ⊥) → (k ≡ 0 → ⊥) → Nothing ≡ call_of d
+  pub call_other : (k ≡ 1 → ⊥) → (k ≡ 0 → ⊥) → None ≡ call_of d
   unfolding call_of
   call_other h g = simp (ne_eqb _ _ (λ q. h (ek ∙ q)), ne_eqb _ _ (λ q. g (ek ∙ q)))
 
@@ -30,20 +30,20 @@ module _ (d : List ℕ) {k : ℕ} (ek : k ≡ field_at 1 d 0) where
       simp z
 
   module _ (g : k ≡ 0) {n : ℕ} (en : n ≡ field_at 4 d 5) where
-    pub call_short : length d < 9 + n → Nothing ≡ call_of d
+    pub call_short : length d < 9 + n → None ≡ call_of d
     unfolding update_of
     call_short h =
-        let none : Nothing ≡ update_of d = simp (lt-leb _ _ (rw en at h)) in
+        let none : None ≡ update_of d = simp (lt-leb _ _ (rw en at h)) in
         none ∙ update_is g
 
-    pub call_update : {e : ℕ} → e ≡ field_at 4 d 1 → 9 + n ≤ length d → Update e n ≡ call_of d
+    pub call_update : {e : ℕ} → e ≡ field_at 4 d 1 → 9 + n ≤ length d → Some (Update e n) ≡ call_of d
     unfolding update_of
     call_update ee h =
-        let some : Update (field_at 4 d 1) (field_at 4 d 5) ≡ update_of d = simp (le-leb _ _ (rw en at h)) in
-        (λ i. Update (ee i) (en i)) ∙ some ∙ update_is g
+        let some : Some (Update (field_at 4 d 1) (field_at 4 d 5)) ≡ update_of d = simp (le-leb _ _ (rw en at h)) in
+        (λ i. Some (Update (ee i) (en i))) ∙ some ∙ update_is g
 
 -- a call is no longer than d
-pick_inside : (t : Bool) (a b : Call) (m : ℕ) → (t ≡ true → size_of a ≤ m) → size_of b ≤ m → size_of (pick t a b) ≤ m
+pick_inside : (t : Bool) (a b : Option Call) (m : ℕ) → (t ≡ true → size_of a ≤ m) → size_of b ≤ m → size_of (pick t a b) ≤ m
 pick_inside true a b m f g = f refl
 pick_inside false a b m f g = g
 
@@ -54,10 +54,15 @@ size_inside d =
     let one : field_at 1 d 0 ≡ 1 = eqb-true (field_at 1 d 0) 1 q in
     omega (arith, reach 1 d 0 (omega arith)) in
     let room : leb (9 + field_at 4 d 5) (length d) ≡ true → 9 + field_at 4 d 5 ≤ length d = λ q. leb-true _ _ q in
-    pick_inside (eqb (field_at 1 d 0) 1) Render _ (length d) byte
-    (pick_inside (eqb (field_at 1 d 0) 0) _ Nothing (length d)
-    (λ _. pick_inside (leb (9 + field_at 4 d 5) (length d)) _ Nothing (length d) room (omega arith))
+    pick_inside (eqb (field_at 1 d 0) 1) (Some Render) _ (length d) byte
+    (pick_inside (eqb (field_at 1 d 0) 0) _ None (length d)
+    (λ _. pick_inside (leb (9 + field_at 4 d 5) (length d)) _ None (length d) room (omega arith))
     (omega arith))
+
+-- and no call is empty
+pub size_some : (c : Call) → 0 < size_of (Some c)
+size_some Render = omega arith
+size_some (Update expected size) = omega arith
 
 -- ---- a walk over n calls: before each, `left` are to come from `at` on
 

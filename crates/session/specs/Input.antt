@@ -1,10 +1,10 @@
 -- The session program's input: three sections, each after its 32-bit count (docs/QUESTIONS.md, "The session program"). Definitions only.
-use Rattle.std.specs.Prelude.{Bool, true, false, List, ℕ, ◌+◌, leb, eqb, length}
+use Rattle.std.specs.Prelude.{Bool, true, false, Option, Some, None, List, ℕ, ◌+◌, leb, eqb, length}
 use Rattle.fields.specs.Fields.{field_at, section_of, rest_of}
 use Rattle.params.specs.declared.params.Params.{Params}
 use Rattle.params.specs.Params.{parse_of}
 use Rattle.session.specs.declared.input.Call.{Call}
-use Rattle.session.specs.declared.input.Call.TheVariants.{Render, Update, Nothing}
+use Rattle.session.specs.declared.input.Call.TheVariants.{Render, Update}
 
 -- ---- the parameters' count, which is 0x34, and the parameters
 
@@ -35,22 +35,22 @@ calls_of d = rest_of d (calls_at d)
 
 -- ---- the call at the front of d
 
-abbrev pub pick : Bool → Call → Call → Call
+abbrev pub pick : Bool → Option Call → Option Call → Option Call
 pick true a b = a
 pick false a b = b
 
 -- byte 0, the expected size, the input's size, and the input, if it is all there
-unfoldable pub update_of : List ℕ → Call
+unfoldable pub update_of : List ℕ → Option Call
 unfolding field_at
-update_of d = pick (leb (9 + field_at 4 d 5) (length d)) (Update (field_at 4 d 1) (field_at 4 d 5)) Nothing
+update_of d = pick (leb (9 + field_at 4 d 5) (length d)) (Some (Update (field_at 4 d 1) (field_at 4 d 5))) None
 
--- byte 1 is a render, byte 0 an update, any other nothing
-unfoldable pub call_of : List ℕ → Call
+-- byte 1 is a render, byte 0 an update, any other no call
+unfoldable pub call_of : List ℕ → Option Call
 unfolding field_at update_of
-call_of d = pick (eqb (field_at 1 d 0) 1) Render (pick (eqb (field_at 1 d 0) 0) (update_of d) Nothing)
+call_of d = pick (eqb (field_at 1 d 0) 1) (Some Render) (pick (eqb (field_at 1 d 0) 0) (update_of d) None)
 
 -- how many bytes a call has
-abbrev pub size_of : Call → ℕ
-size_of Render = 1
-size_of (Update expected size) = 9 + size
-size_of Nothing = 0
+abbrev pub size_of : Option Call → ℕ
+size_of (Some Render) = 1
+size_of (Some (Update expected size)) = 9 + size
+size_of None = 0

@@ -17,12 +17,10 @@ fn put_digits(out: &mut [u8], at: usize, base: u32, k: usize, v: u32)
     requires k_in_bounds { at + k ≤ length out.old }
     ensures { out.new ≡ put out.old at (digits_of base k v) }
 {
-    let mut i = k;
     let mut rest = v;
-    while i > 0 {
-        i -= 1;
+    for i in (0..k).rev() {
         out[at + i] = digit(rest % base);
-        rest = rest / base;
+        rest /= base;
     }
 }
 
@@ -35,22 +33,18 @@ pub fn put_hex(out: &mut [u8], at: usize, k: usize, v: u32) -> usize
     at + k
 }
 
+// How many decimal digits a number below 100,000 has.
+#[tactic(auto, unfolding(crate::specs::Text::places_of))]
 fn places(v: u32) -> usize
     ensures { (result ≡ places_of v) × (result ≤ 5) }
 {
-    if v < 10 {
-        return 1;
+    match v {
+        0..=9 => 1,
+        10..=99 => 2,
+        100..=999 => 3,
+        1000..=9999 => 4,
+        _ => 5,
     }
-    if v < 100 {
-        return 2;
-    }
-    if v < 1000 {
-        return 3;
-    }
-    if v < 10000 {
-        return 4;
-    }
-    5
 }
 
 // A number below 100,000.
@@ -75,10 +69,7 @@ pub fn put_bytes(out: &mut [u8], at: usize, bytes: &[u8]) -> usize
     requires { at + length bytes.now ≤ length out.old }
     ensures { text out.new result ≡ append (text out.old at) bytes.now }
 {
-    let mut k = 0;
-    while k < bytes.len() {
-        out[at + k] = bytes[k];
-        k += 1;
-    }
-    at + k
+    let end = at + bytes.len();
+    out[at..end].copy_from_slice(bytes);
+    end
 }

@@ -5,11 +5,22 @@ ghost use Rattle.session.specs.Input.{parameters_of, memory_size, memory_of, cal
 use params::Params;
 
 // What stands at the front of the calls: a render is one byte; an update is one, the size of reply that it expects, and its input after the input's size.
-#[derive(Clone, Copy)]
+#[derive(Clone, Copy, Debug, PartialEq, Eq)]
 pub enum Call {
     Render,
     Update { expected: u32, size: u32 },
-    Nothing,
+}
+
+impl Call {
+    // The bytes of the call.
+    pub fn size(self) -> usize
+        ensures { result ≡ size_of (Some «self») }
+    {
+        match self {
+            Call::Render => 1,
+            Call::Update { expected: _, size } => 9 + size as usize,
+        }
+    }
 }
 
 pub fn parameters(input: &[u8]) -> Params
@@ -45,32 +56,21 @@ pub fn calls(input: &[u8]) -> &[u8]
     fields::rest(input, 0x40 + n as usize)
 }
 
-// The bytes of a call.
-pub fn call_size(c: Call) -> usize
-    ensures { result ≡ size_of c }
-{
-    match c {
-        Call::Render => 1,
-        Call::Update { expected: _, size } => 9 + size as usize,
-        Call::Nothing => 0,
-    }
-}
-
-// The call at the front of d.
-pub fn first_call(d: &[u8]) -> Call
+// The call at the front of d, if one is there.
+pub fn first_call(d: &[u8]) -> Option<Call>
     ensures { result ≡ call_of d.now }
 {
     let kind = fields::byte_at(d, 0);
     if kind == 1 {
-        return Call::Render;
+        return Some(Call::Render);
     }
     if kind != 0 {
-        return Call::Nothing;
+        return None;
     }
     let expected = fields::u32_at(d, 1);
     let size = fields::u32_at(d, 5);
     if d.len() < 9 + size as usize {
-        return Call::Nothing;
+        return None;
     }
-    Call::Update { expected, size }
+    Some(Call::Update { expected, size })
 }

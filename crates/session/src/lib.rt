@@ -6,6 +6,6 @@ mod input;
 mod lines;
 mod question;
 
-pub use input::{Call, call_count, call_size, calls, first_call, memory, parameters};
+pub use input::{Call, call_count, calls, first_call, memory, parameters};
 pub use lines::{frames_line, refused_line, reply_line};
 pub use question::accepted;

@@ -29,10 +29,8 @@ fn put_floats(out: &mut [u8], at: usize, s: &[f32]) -> usize
     ensures { text out.new result ≡ append (text out.old at) (floats_text s.now) }
 {
     let mut end = at;
-    let mut k = 0;
-    while k < s.len() {
-        end = put_float(out, end, s[k]);
-        k += 1;
+    for x in s {
+        end = put_float(out, end, *x);
     }
     end
 }
@@ -67,11 +65,12 @@ fn word_at(d: &[u8], at: usize) -> u32
     requires { at ≤ length d.now }
     ensures { result ≡ le 4 d.now at }
 {
-    let a = fields::byte_at(d, at) as u32;
-    let b = fields::byte_at(d, at + 1) as u32;
-    let c = fields::byte_at(d, at + 2) as u32;
-    let e = fields::byte_at(d, at + 3) as u32;
-    a + 256 * (b + 256 * (c + 256 * e))
+    u32::from_le_bytes([
+        fields::byte_at(d, at),
+        fields::byte_at(d, at + 1),
+        fields::byte_at(d, at + 2),
+        fields::byte_at(d, at + 3),
+    ])
 }
 
 fn put_words(out: &mut [u8], at: usize, d: &[u8]) -> usize
@@ -79,13 +78,9 @@ fn put_words(out: &mut [u8], at: usize, d: &[u8]) -> usize
     requires d_in_bounds { at + (length d.now + 3) / 4 * 14 ≤ length out.old }
     ensures { text out.new result ≡ append (text out.old at) (words_text d.now) }
 {
-    let n = (d.len() + 3) / 4;
     let mut end = at;
-    let mut k = 0;
-    while k < n {
-        let v = word_at(d, 4 * k);
-        end = put_word(out, end, (4 * k) as u32, v);
-        k += 1;
+    for k in 0..d.len().div_ceil(4) {
+        end = put_word(out, end, (4 * k) as u32, word_at(d, 4 * k));
     }
     end
 }

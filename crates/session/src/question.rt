@@ -2,6 +2,7 @@
 ghost use Rattle.std.specs.Prelude.{◌≡◌};
 ghost use Rattle.session.specs.Question.{small_of, calls_whole, accepted_of};
 
+use crate::input::{call_count, calls, first_call, memory_size, parameters};
 use params::Params;
 
 const MOST: usize = 65536;
@@ -9,28 +10,16 @@ const MOST: usize = 65536;
 const PARAMETERS: u32 = 0x34;
 
 // The counts that are small: as many as the program has room for. Samples 0 is left to question 1, sinks and effects to question 2.
+#[tactic(auto, unfolding(crate::specs::Question::small_of))]
 fn small(p: Params) -> bool
     ensures { result ≡ small_of p }
 {
-    if p.sample_count > 64 {
-        return false;
-    }
-    if p.voices > 4 {
-        return false;
-    }
-    if p.sub_mixes > 3 {
-        return false;
-    }
-    if p.mix_buffers > 12 {
-        return false;
-    }
-    if p.splitters > 8 {
-        return false;
-    }
-    if p.splitter_destinations > 8 {
-        return false;
-    }
-    true
+    p.sample_count <= 64
+        && p.voices <= 4
+        && p.sub_mixes <= 3
+        && p.mix_buffers <= 12
+        && p.splitters <= 8
+        && p.splitter_destinations <= 8
 }
 
 // Whether d is n calls and nothing else.
@@ -38,32 +27,22 @@ fn calls_whole(d: &[u8], n: u32) -> bool
     ensures { result ≡ calls_whole n d.now }
 {
     let mut at = 0;
-    let mut left = n;
-    while left > 0 {
-        let size = crate::input::call_size(crate::input::first_call(fields::rest(d, at)));
-        if size == 0 {
+    for _ in 0..n {
+        let Some(call) = first_call(fields::rest(d, at)) else {
             return false;
-        }
-        at += size;
-        left -= 1;
+        };
+        at += call.size();
     }
     at == d.len()
 }
 
+#[tactic(auto, unfolding(crate::specs::Question::accepted_of))]
 pub fn accepted(input: &[u8]) -> bool
     ensures { result ≡ accepted_of input.now }
 {
-    if input.len() > MOST {
-        return false;
-    }
-    if fields::u32_at(input, 0) != PARAMETERS {
-        return false;
-    }
-    if input.len() < 0x40 + crate::input::memory_size(input) as usize {
-        return false;
-    }
-    if !small(crate::input::parameters(input)) {
-        return false;
-    }
-    calls_whole(crate::input::calls(input), crate::input::call_count(input))
+    input.len() <= MOST
+        && fields::u32_at(input, 0) == PARAMETERS
+        && 0x40 + memory_size(input) as usize <= input.len()
+        && small(parameters(input))
+        && calls_whole(calls(input), call_count(input))
 }

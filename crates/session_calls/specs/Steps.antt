@@ -1,11 +1,11 @@
 -- A call of a session: its refusal's number or 0, what it leaves, and its line. Definitions only.
-use Rattle.std.specs.Prelude.{List, [], ◌∷◌, ℕ, zero, suc, Float, length, take}
+use Rattle.std.specs.Prelude.{List, [], ◌∷◌, ℕ, zero, suc, Float, Option, Some, None, length, take}
 use Rattle.fields.specs.Fields.{section_of}
 use Rattle.ranges.specs.Ranges.{range}
 use Rattle.state.specs.State.{State}
 use Rattle.calls.specs.Calls.{UpdateOutcome, update_call, RenderOutcome, render_call}
 use Rattle.session.specs.declared.input.Call.{Call}
-use Rattle.session.specs.declared.input.Call.TheVariants.{Render, Update, Nothing}
+use Rattle.session.specs.declared.input.Call.TheVariants.{Render, Update}
 use Rattle.session.specs.Text.{Text, text, append}
 use Rattle.session.specs.Lines.{frames_line, reply_line, refused_line}
 
@@ -48,11 +48,11 @@ unfolding update_call
 update_step h expected input = updated (update_call h.state expected input h.reply) h.frames
 
 -- the call at the front of d; question 10 has left none but these two
-unfoldable pub call_step : Call → List ℕ → List ℕ → Held → Step
+unfoldable pub call_step : Option Call → List ℕ → List ℕ → Held → Step
 unfolding render_step update_step refused_line
-call_step Render d memory h = render_step h memory
-call_step (Update expected size) d memory h = update_step h expected (section_of d 9 size)
-call_step Nothing d memory h = step 10 h (refused_line 10)
+call_step (Some Render) d memory h = render_step h memory
+call_step (Some (Update expected size)) d memory h = update_step h expected (section_of d 9 size)
+call_step None d memory h = step 10 h (refused_line 10)
 
 -- ---- a step as it is run: its line stands at the front of `out`, the room for a line
 

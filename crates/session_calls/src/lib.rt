@@ -8,7 +8,7 @@ ghost use Rattle.session.specs.Text.{text, append};
 ghost use Rattle.session.specs.Lines.{frames_line, reply_line, refused_line};
 ghost use Rattle.session_calls.specs.Steps.{held, line_of, written, written_on, render_step, update_step, call_step};
 
-use renderer::{RenderAnswer, UpdateAnswer};
+use renderer::{RenderError, UpdateError};
 use session::Call;
 
 // Where sample memory stands: it is one range.
@@ -32,7 +32,7 @@ fn refused(number: u32, out: &mut [u8]) -> Line
 }
 
 // Writes the frames' line or the refusal's, by what the render answered.
-fn render_line(answer: RenderAnswer, frames: &[f32], out: &mut [u8]) -> Line
+fn render_line(answer: Result<u32, RenderError>, frames: &[f32], out: &mut [u8]) -> Line
     requires frames_len_bound { length frames.now ≤ 128 }
     requires in_bounds { 65536 ≤ length out.old }
     ensures number_value { (result.number ≡ render_number answer) × (text out.new result.size
@@ -40,14 +40,11 @@ fn render_line(answer: RenderAnswer, frames: &[f32], out: &mut [u8]) -> Line
     ensures size_in_bounds { result.size ≤ length out.new }
 {
     match answer {
-        RenderAnswer::Rendered(_) => {
+        Ok(_) => {
             let size = session::frames_line(frames, out);
             Line { number: 0, size }
         }
-        RenderAnswer::NotWhole => refused(4, out),
-        RenderAnswer::Ranges => refused(13, out),
-        RenderAnswer::FarMemory => refused(5, out),
-        RenderAnswer::ShortFrames => refused(7, out),
+        Err(e) => refused(e.number(), out),
     }
 }
 
@@ -82,7 +79,7 @@ fn run_render(
 }
 
 // Writes the reply's line or the refusal's, by what the update answered. The reply is at the front of its slice.
-fn update_line(answer: UpdateAnswer, reply: &[u8], out: &mut [u8]) -> Line
+fn update_line(answer: Result<usize, UpdateError>, reply: &[u8], out: &mut [u8]) -> Line
     requires answer_in_bounds { (update_size answer ≤ length reply.now) × (length reply.now ≤ 16384) }
     requires in_bounds { 65536 ≤ length out.old }
     ensures number_value { (result.number ≡ update_number answer) × (text out.new result.size
@@ -90,12 +87,11 @@ fn update_line(answer: UpdateAnswer, reply: &[u8], out: &mut [u8]) -> Line
     ensures size_in_bounds { result.size ≤ length out.new }
 {
     match answer {
-        UpdateAnswer::Updated(n) => {
+        Ok(n) => {
             let size = session::reply_line(&reply[..n], out);
             Line { number: 0, size }
         }
-        UpdateAnswer::NotWhole => refused(4, out),
-        UpdateAnswer::ShortReply => refused(6, out),
+        Err(e) => refused(e.number(), out),
     }
 }
 
@@ -129,9 +125,9 @@ fn run_update(
     update_line(answer, reply, out)
 }
 
-// The call at the front of d. Its input, if it has one, is behind nine bytes.
+// The call at the front of d, if one is there. Its input, if it has one, is behind nine bytes.
 pub fn run_call(
-    call: Call,
+    call: Option<Call>,
     d: &[u8],
     memory: &[u8],
     words: &mut [u32],
@@ -155,6 +151,9 @@ pub fn run_call(
         frames.old reply.old)) }
     ensures size_in_bounds { result.size ≤ length out.new }
 {
+    let Some(call) = call else {
+        return refused(10, out);
+    };
     match call {
         Call::Render => run_render(memory, words, longs, floats, contexts, history, frames, out),
         Call::Update { expected, size } => run_update(
@@ -168,6 +167,5 @@ pub fn run_call(
             reply,
             out,
         ),
-        Call::Nothing => refused(10, out),
     }
 }

@@ -14,8 +14,8 @@ use Rattle.state.specs.State.{state_of, places_of}
 use Rattle.whole.specs.Counts.{samples_allowed, counts_allowed, allowed_facts}
 use Rattle.calls.specs.Calls.{LengthsOutcome, lengths_refused, lengths_given, lengths_call}
 use Rattle.renderer.specs.declared.answers.Lengths.{Lengths}
-use Rattle.renderer.specs.declared.answers.LengthsAnswer.{LengthsAnswer}
-use Rattle.renderer.specs.declared.answers.LengthsAnswer.TheVariants as of_lengths
+use Rattle.std.specs.Prelude.{Result, Ok}
+use Rattle.renderer.specs.declared.answers.LengthsError.{LengthsError}
 use Rattle.renderer.specs.Answers.{lengths_seen}
 use Rattle.session.specs.Input.{parameters_of}
 use Rattle.session.specs.Question.{accepted_of}
@@ -25,7 +25,7 @@ use Rattle.session_run.specs.Lines.{zeros, silence, room}
 use Rattle.session_run.specs.Room.{Fits}
 
 module _ (p : Params) (small : Small p) (at : Lengths) where
-  given : Allowed p → lengths_seen (of_lengths.Lengths at) ≡ lengths_given (places_of p) → Fits at
+  given : Allowed p → lengths_seen (Ok at) ≡ lengths_given (places_of p) → Fits at
   unfolding places_of
   given a e = record {
     words = omega (arith, ap (λ (x : LengthsOutcome). x.words) e);
@@ -36,12 +36,12 @@ module _ (p : Params) (small : Small p) (at : Lengths) where
   }
 
   by_answers : (s c : Bool) → samples_allowed p ≡ s → counts_allowed p ≡ c
-      → lengths_seen (of_lengths.Lengths at) ≡ cond s (cond c (lengths_given (places_of p)) (lengths_refused 2)) (lengths_refused 1) → Fits at
+      → lengths_seen (Ok at) ≡ cond s (cond c (lengths_given (places_of p)) (lengths_refused 2)) (lengths_refused 1) → Fits at
   by_answers true true es ec e = given (allowed_facts p es ec) e
   by_answers true false es ec e = absurd (omega (arith, ap (λ (x : LengthsOutcome). x.number) e))
   by_answers false c es ec e = absurd (omega (arith, ap (λ (x : LengthsOutcome). x.number) e))
 
-  pub fits : {a : LengthsAnswer} → a ≡ of_lengths.Lengths at → lengths_seen a ≡ lengths_call p → Fits at
+  pub fits : {a : Result Lengths LengthsError} → a ≡ Ok at → lengths_seen a ≡ lengths_call p → Fits at
   unfolding lengths_call
   fits e seen = by_answers (samples_allowed p) (counts_allowed p) refl refl (ap lengths_seen (sym e) ∙ seen)
 
@@ -73,7 +73,7 @@ pub room_lent : (p : Params) (at : Lengths) {w l c y : List ℕ} {f h r : List F
     → h ≡ replicate 72 (of_bits binary32 0) → r ≡ replicate 128 (of_bits binary32 0) → y ≡ replicate 16384 0
     → held (state_of (take at.words w) (take at.longs l) (take at.floats f) (take at.contexts c) (take at.history h))
     (take (2 * p.sample_count) r) y
-    ≡ room p (lengths_seen (of_lengths.Lengths at))
+    ≡ room p (lengths_seen (Ok at))
 unfolding room
 room_lent p at small fit ew el ef ec eh er ey =
     let tw = take_zeros 1390 ew fit.words in

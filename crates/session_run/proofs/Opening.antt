@@ -2,7 +2,7 @@
 use mathlib.Core.Path.{◌≡◌, refl, ap, sym, ◌∙◌}
 use mathlib.Core.Bool.{Bool, true, false, cond, not}
 use mathlib.Core.List.{List, [], ◌∷◌}
-use Prim.Native.Nat.{ℕ, zero, suc, ◌≤◌, ◌<◌}
+use Prim.Native.Nat.{ℕ, zero, suc, ◌<◌}
 use native.Mathlib.Omega.{arith}
 use borrow.Author.Tests.{not-true, not-false}
 use lib.Ieee.{Float}
@@ -10,10 +10,12 @@ use Rattle.params.specs.declared.params.Params.{Params}
 use Rattle.state.specs.State.{State}
 use Rattle.calls.specs.Calls.{LengthsOutcome, lengths_call, OpenOutcome, open_call}
 use Rattle.renderer.specs.declared.answers.Lengths.{Lengths}
-use Rattle.renderer.specs.declared.answers.LengthsAnswer.{LengthsAnswer}
-use Rattle.renderer.specs.declared.answers.LengthsAnswer.TheVariants as of_lengths
-use Rattle.renderer.specs.declared.answers.OpenAnswer.{OpenAnswer}
-use Rattle.renderer.specs.Answers.{lengths_seen, open_number, open_seen}
+use Rattle.std.specs.Prelude.{Result, Ok, Err}
+use Rattle.renderer.specs.declared.answers.LengthsError.{LengthsError}
+use Rattle.renderer.specs.declared.answers.LengthsError.TheVariants as of_lengths
+use Rattle.renderer.specs.declared.answers.OpenError.{OpenError}
+use Rattle.renderer.specs.declared.answers.OpenError.TheVariants as of_open
+use Rattle.renderer.specs.Answers.{lengths_refusal, lengths_seen, open_refusal, open_number, open_seen}
 use Rattle.session.specs.Input.{parameters_of, memory_of, call_count, calls_of}
 use Rattle.session.specs.Question.{accepted_of}
 use Rattle.session.specs.Lines.{refused_line}
@@ -24,6 +26,15 @@ refused_alone : (n : ℕ) → 0 < n → (lines : List (List ℕ)) → or_refused
 refused_alone zero some lines = absurd (omega arith)
 refused_alone (suc n) some lines = refl
 
+lengths_some : (e : LengthsError) → 0 < lengths_refusal e
+lengths_some of_lengths.Samples = omega arith
+lengths_some of_lengths.Counts = omega arith
+
+open_some : (e : OpenError) → 0 < open_refusal e
+open_some of_open.Samples = omega arith
+open_some of_open.Counts = omega arith
+open_some of_open.Lengths = omega arith
+
 -- ---- question 10, by its answer r
 
 module _ (d : List ℕ) {r : Bool} (er : r ≡ accepted_of d) where
@@ -31,7 +42,7 @@ module _ (d : List ℕ) {r : Bool} (er : r ≡ accepted_of d) where
   unfolding lines_of
   not_accepted h = rw (sym er ∙ not-true r h)
 
-  module _ (h : not r ≡ false) {p : Params} (ep : p ≡ parameters_of d) (a : LengthsAnswer) (seen : lengths_seen a ≡ lengths_call p) where
+  module _ (h : not r ≡ false) {p : Params} (ep : p ≡ parameters_of d) (a : Result Lengths LengthsError) (seen : lengths_seen a ≡ lengths_call p) where
     asked : lines_of d ≡ or_refused (lengths_seen a).number (open_lines d (room p (lengths_seen a)))
     unfolding lines_of
     asked =
@@ -44,18 +55,21 @@ module _ (d : List ℕ) {r : Bool} (er : r ≡ accepted_of d) where
 
     -- ---- the length call, by its answer
 
-    pub lengths_given_lem : {at : Lengths} → a ≡ of_lengths.Lengths at → lines_of d ≡ open_lines d (room p (lengths_seen (of_lengths.Lengths at)))
-    lengths_given_lem e = asked ∙ ap (λ (b : LengthsAnswer). or_refused (lengths_seen b).number (open_lines d (room p (lengths_seen b)))) e
+    pub lengths_given_lem : {at : Lengths} → a ≡ Ok at → lines_of d ≡ open_lines d (room p (lengths_seen (Ok at)))
+    lengths_given_lem e = asked ∙ ap (λ (b : Result Lengths LengthsError). or_refused (lengths_seen b).number (open_lines d (room p (lengths_seen b)))) e
 
-    pub lengths_refused_lem : (n : ℕ) {b : LengthsAnswer} → a ≡ b → (lengths_seen b).number ≡ suc n → lines_of d ≡ refused_line (suc n) ∷ []
-    lengths_refused_lem n e en =
+    pub lengths_refused_lem : {e : LengthsError} {k : ℕ} → a ≡ Err e → k ≡ lengths_refusal e → lines_of d ≡ refused_line k ∷ []
+    lengths_refused_lem {e} {k} ea ek =
+        let lines = open_lines d (room p (lengths_seen a)) in
+        let number : (lengths_seen a).number ≡ k = ap (λ (b : Result Lengths LengthsError). (lengths_seen b).number) ea ∙ sym ek in
         asked
-        ∙ ap (λ (m : ℕ). or_refused m (open_lines d (room p (lengths_seen a)))) (ap (λ (b : LengthsAnswer). (lengths_seen b).number) e ∙ en)
+        ∙ ap (λ (m : ℕ). or_refused m lines) number
+        ∙ refused_alone k (omega (arith, ek, lengths_some e)) lines
 
 -- ---- the open, by its answer a, and its number
 
 module _ (d : List ℕ) {p : Params} (st : State) {u : State} (frames : List Float) (reply : List ℕ) (ep : p ≡ parameters_of d)
-    (lent : lines_of d ≡ open_lines d (held st frames reply)) (a : OpenAnswer) (seen : open_seen a u ≡ open_call p st) where
+    (lent : lines_of d ≡ open_lines d (held st frames reply)) (a : Result (Unit {0}) OpenError) (seen : open_seen a u ≡ open_call p st) where
   opening : lines_of d ≡ or_refused (open_number a) (call_lines (call_count d) (calls_of d) (memory_of d) (held u frames reply))
   unfolding open_lines
   opening =
@@ -63,14 +77,13 @@ module _ (d : List ℕ) {p : Params} (st : State) {u : State} (frames : List Flo
       λ o. or_refused o.number (call_lines (call_count d) (calls_of d) (memory_of d) (held o.state frames reply)) in
       lent ∙ sym (ap (λ (q : Params). whole (open_call q st)) ep) ∙ sym (ap whole seen)
 
-  module _ {k : ℕ} (ek : k ≡ open_number a) where
-    pub open_ran : k ≤ 0 → lines_of d ≡ call_lines (call_count d) (calls_of d) (memory_of d) (held u frames reply)
-    open_ran none =
-        let zero_is : open_number a ≡ 0 = omega (arith, ek) in
-        opening ∙ ap (λ (n : ℕ). or_refused n (call_lines (call_count d) (calls_of d) (memory_of d) (held u frames reply))) zero_is
+  pub open_ran : {v : Unit {0}} → a ≡ Ok v → lines_of d ≡ call_lines (call_count d) (calls_of d) (memory_of d) (held u frames reply)
+  open_ran ea =
+      opening
+      ∙ ap (λ (b : Result (Unit {0}) OpenError). or_refused (open_number b) (call_lines (call_count d) (calls_of d) (memory_of d) (held u frames reply))) ea
 
-    pub open_refused : 0 < k → lines_of d ≡ refused_line k ∷ []
-    open_refused some =
-        opening
-        ∙ ap (λ (n : ℕ). or_refused n (call_lines (call_count d) (calls_of d) (memory_of d) (held u frames reply))) (sym ek)
-        ∙ refused_alone k some (call_lines (call_count d) (calls_of d) (memory_of d) (held u frames reply))
+  pub open_refused : {e : OpenError} {k : ℕ} → a ≡ Err e → k ≡ open_refusal e → lines_of d ≡ refused_line k ∷ []
+  open_refused {e} {k} ea ek =
+      let lines = call_lines (call_count d) (calls_of d) (memory_of d) (held u frames reply) in
+      let number : open_number a ≡ k = ap open_number ea ∙ sym ek in
+      opening ∙ ap (λ (n : ℕ). or_refused n lines) number ∙ refused_alone k (omega (arith, ek, open_some e)) lines

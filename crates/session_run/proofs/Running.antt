@@ -1,8 +1,8 @@
 -- A run over the calls: before each, the lines that are still to be printed are those of the calls that are left. Assumes nothing.
 use mathlib.Core.Path.{◌≡◌, refl, ap, sym, subst, ◌∙◌}
-use mathlib.Core.Bool.{Bool, true, false, cond}
 use mathlib.Core.List.{List, [], ◌∷◌}
-use Prim.Native.Nat.{ℕ, suc, ◌+◌, ◌-◌, ◌≤◌, ◌<◌}
+use Rattle.std.specs.Prelude.{Option, Some, None}
+use Prim.Native.Nat.{ℕ, zero, suc, ◌+◌, ◌-◌, ◌≤◌, ◌<◌}
 use native.Mathlib.Omega.{arith}
 use lib.ListN.{length, drop, length-drop}
 use lib.Seq.{drop-drop}
@@ -10,7 +10,7 @@ use Rattle.fields.specs.Fields.{rest_of}
 use Rattle.session.specs.Input.{memory_of, call_count, calls_at, calls_of, call_of, size_of}
 use Rattle.session.specs.Calls.{size_inside}
 use Rattle.session_calls.specs.Steps.{Held}
-use Rattle.session_run.specs.Lines.{first_step, onward, call_lines, lines_of, LineAt, Turned, turned, turn_of}
+use Rattle.session_run.specs.Lines.{first_step, onward, call_lines, lines_of, LineAt, next_of, Turned, turned, turn_of}
 use Rattle.session_run.proofs.Printed.{at_front, behind}
 
 -- of the input d's run, k lines are printed, and `left` calls are to come from `at` on with what is held, h
@@ -40,19 +40,22 @@ run_end {d} {k} {at} {left} {h} r none =
     let e : drop k (lines_of d) ≡ [] = r.same ∙ ap (λ (n : ℕ). call_lines n (drop at (calls_of d)) (memory_of d) h) z in
     omega (arith, length-drop k (lines_of d), ap length e, r.near)
 
--- a run that ends has no calls left
-onward_left : (going : Bool) (n : ℕ) (s m : List ℕ) (h : Held) → onward going (call_lines n s m h) ≡ call_lines (cond going n 0) s m h
-unfolding call_lines
-onward_left true n s m h = refl
-onward_left false n s m h = refl
+-- a size, or z where there is none
+abbrev or_size : ℕ → Option ℕ → ℕ
+or_size z (Some n) = n
+or_size z None = z
 
-pub left_fewer : (going : Bool) (n : ℕ) → cond going n 0 ≤ n
-left_fewer true n = omega arith
-left_fewer false n = omega arith
+size_told : (n z : ℕ) → or_size z (next_of n z) ≡ z
+size_told zero z = refl
+size_told (suc n) z = refl
+
+-- what a turn gave, as the match on it says
+pub found : {x y : Option ℕ} {u : Held} {t : Turned} → x ≡ y → turned x u ≡ t → turned y u ≡ t
+found {u = u} e told = ap (λ (z : Option ℕ). turned z u) (sym e) ∙ told
 
 -- the lines behind the next call, by what it gives to the run
 abbrev following : List ℕ → ℕ → ℕ → Turned → List (List ℕ)
-following d at left t = onward t.going (call_lines (left - 1) (drop t.size (drop at (calls_of d))) (memory_of d) t.left)
+following d at left t = onward t.next (λ size. call_lines (left - 1) (drop size (drop at (calls_of d))) (memory_of d) t.left)
 
 module _ {d : List ℕ} {k at left : ℕ} {h : Held} (r : Running d k at left h) (some : 0 < left) where
   front : drop k (lines_of d)
@@ -66,31 +69,40 @@ module _ {d : List ℕ} {k at left : ℕ} {h : Held} (r : Running d k at left h)
   turn_line = at_front (lines_of d) k front
 
   -- behind a turn, which printed a line
-  module _ {going : Bool} {size m : ℕ} {u : Held} (em : m ≡ k + 1)
-      (e : turned going size u ≡ turn_of (drop at (calls_of d)) (memory_of d) h) where
-    rest : drop (k + 1) (lines_of d) ≡ following d at left (turned going size u)
-    rest = behind (lines_of d) k front ∙ sym (ap (following d at left) e)
+  module _ {m : ℕ} {u : Held} (em : m ≡ k + 1) where
+    rest : {next : Option ℕ} → turned next u ≡ turn_of (drop at (calls_of d)) (memory_of d) h
+        → drop m (lines_of d) ≡ following d at left (turned next u)
+    rest e =
+        ap (λ (n : ℕ). drop n (lines_of d)) em ∙ behind (lines_of d) k front ∙ sym (ap (following d at left) e)
 
-    size_is : size ≡ size_of (call_of (drop at (calls_of d)))
-    unfolding turn_of
-    size_is = ap (λ (t : Turned). t.size) e
+    -- the run ends where the call was refused
+    pub turn_last : turned None u ≡ turn_of (drop at (calls_of d)) (memory_of d) h → m ≡ length (lines_of d)
+    turn_last e = omega (arith, em, turn_line.there, length-drop m (lines_of d), ap length (rest e))
 
-    -- the next place is inside the input
-    pub turn_inside : at + size ≤ length (calls_of d)
-    turn_inside = omega (arith, size_is, size_inside (drop at (calls_of d)), length-drop at (calls_of d), r.inside)
+    module _ {size : ℕ} (e : turned (Some size) u ≡ turn_of (drop at (calls_of d)) (memory_of d) h) where
+      size_is : size ≡ size_of (call_of (drop at (calls_of d)))
+      unfolding turn_of
+      size_is =
+          let z = size_of (call_of (drop at (calls_of d))) in
+          ap (λ (t : Turned). or_size z t.next) e ∙ size_told (first_step (drop at (calls_of d)) (memory_of d) h).number z
 
-    pub turn_near : at + size ≤ length d
-    unfolding rest_of
-    turn_near = omega (arith, turn_inside, length-drop (calls_at d) d)
+      -- the next place is inside the input
+      turn_inside : at + size ≤ length (calls_of d)
+      turn_inside = omega (arith, size_is, size_inside (drop at (calls_of d)), length-drop at (calls_of d), r.inside)
 
-    -- the calls that are left: none where the run ends
-    pub turn_more : Running d m (at + size) (cond going (left - 1) 0) u
-    turn_more = record {
-      inside = turn_inside;
-      count = omega (arith, em, r.count, left_fewer going (left - 1));
-      near = omega (arith, em, turn_line.there);
-      same = ap (λ (n : ℕ). drop n (lines_of d)) em
-          ∙ rest
-          ∙ onward_left going (left - 1) (drop size (drop at (calls_of d))) (memory_of d) u
-          ∙ ap (λ (s : List ℕ). call_lines (cond going (left - 1) 0) s (memory_of d) u) (drop-drop size at (calls_of d));
-    }
+      pub turn_near : at + size ≤ length d
+      unfolding rest_of
+      turn_near = omega (arith, turn_inside, length-drop (calls_at d) d)
+
+      -- the calls that are left
+      pub turn_next : {n : ℕ} → n ≡ left - 1 → Running d m (at + size) n u
+      turn_next en =
+          run_on
+          (
+          record {
+            inside = turn_inside;
+            count = omega (arith, em, r.count);
+            near = omega (arith, em, turn_line.there);
+            same = rest e ∙ ap (λ (s : List ℕ). call_lines (left - 1) s (memory_of d) u) (drop-drop size at (calls_of d));
+          })
+          en

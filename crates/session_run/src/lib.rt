@@ -9,7 +9,6 @@ ghost use Rattle.std.specs.Prelude.{◌≡◌, ◌≤◌, ◌<◌, length, OnOk,
 ghost use Rattle.session_run.specs.Lines.{lines_of};
 
 pub use output::WriteFailed;
-use renderer::LengthsAnswer;
 
 // Prints the run's lines, and counts them. Question 10 is asked of the whole input before anything else is done with it.
 fn print_run(
@@ -27,11 +26,9 @@ fn print_run(
         return turns::refuse(rt, input, 10, printed, out);
     }
     let p = session::parameters(input);
-    let lengths = renderer::lengths(p);
-    match lengths {
-        LengthsAnswer::Lengths(at) => room::make(rt, input, p, at, printed, out),
-        LengthsAnswer::Samples => turns::refuse(rt, input, 1, printed, out),
-        LengthsAnswer::Counts => turns::refuse(rt, input, 2, printed, out),
+    match renderer::lengths(p) {
+        Ok(at) => room::make(rt, input, p, at, printed, out),
+        Err(e) => turns::refuse(rt, input, e.number(), printed, out),
     }
 }
 

@@ -1,5 +1,5 @@
 // The calls of a session, one after the other. Each line is printed when its call has run; a refusal ends the run.
-ghost use Rattle.std.specs.Prelude.{◌≡◌, cond, [], ◌∷◌, ◌+◌, ◌-◌, ◌≤◌, ◌<◌, length, take, drop, OnOk, OnErr, IfOk};
+ghost use Rattle.std.specs.Prelude.{◌≡◌, [], ◌∷◌, ◌+◌, ◌≤◌, ◌<◌, length, take, drop, OnOk, OnErr, IfOk};
 ghost use Rattle.state.specs.State.{state_of};
 ghost use Rattle.session.specs.Input.{call_count, calls_of, memory_of};
 ghost use Rattle.session.specs.Lines.{refused_line};
@@ -7,13 +7,7 @@ ghost use Rattle.session_calls.specs.Steps.{held};
 ghost use Rattle.session_run.specs.Lines.{first_step, call_lines, lines_of, LineAt, turned, turn_of};
 
 use crate::WriteFailed;
-
-// What a call gives to the run: whether it goes on, and the call's size.
-#[derive(Clone, Copy)]
-struct After {
-    going: bool,
-    size: usize,
-}
+use session::Call;
 
 // Prints the first n bytes of `out`, which are the next line of the run that the input asks for: `printed` counts the lines.
 // Nothing else in the program prints. Where the write fails, the line doesn't count.
@@ -53,7 +47,8 @@ pub fn refuse(
     print_line(rt, input, printed, out, n)
 }
 
-// Runs the call that begins at a place in the calls, and prints its line, which is the next one of the run.
+// Runs the call that begins at a place in the calls, and prints its line, which is the next one of the run. Gives how far on the next
+// call begins, or none where this one is refused.
 fn turn(
     rt: &impl Print,
     input: &[u8],
@@ -67,13 +62,13 @@ fn turn(
     frames: &mut [f32],
     reply: &mut [u8],
     out: &mut [u8],
-) -> Result<After, WriteFailed>
+) -> Result<Option<usize>, WriteFailed>
     requires frames_len_bound { (length frames.old ≤ 128) × (length reply.old ≤ 16384) × (65536 ≤ length out.old) }
     requires printed_bound { printed.old < 4294967295 }
     requires line_at { LineAt (lines_of input.now) printed.old (first_step (drop at (calls_of input.now)) (memory_of input.now)
         (held (state_of words.old longs.old floats.old contexts.old history.old) frames.old reply.old)).line }
     ensures printed_after { OnOk result (printed.new ≡ printed.old + 1) }
-    ensures reply_after { IfOk result (λ after. turned after.going after.size
+    ensures reply_after { IfOk result (λ next. turned next
         (held (state_of words.new longs.new floats.new contexts.new history.new)
         frames.new reply.new)
         ≡ turn_of (drop at (calls_of input.now)) (memory_of input.now)
@@ -97,22 +92,10 @@ fn turn(
         out,
     );
     print_line(rt, input, printed, out, line.size)?;
-    let size = session::call_size(call);
-    Ok(After {
-        going: line.number == 0,
-        size,
-    })
-}
-
-// How many calls are left behind one, by whether the run goes on.
-fn left_behind(left: u32, going: bool) -> u32
-    requires { 0 < left }
-    ensures { result ≡ cond going (left - 1) 0 }
-{
-    if going {
-        return left - 1;
+    if line.number != 0 {
+        return Ok(None);
     }
-    0
+    Ok(Some(call.map_or(0, Call::size)))
 }
 
 // Runs the calls until one is refused.
@@ -137,13 +120,15 @@ pub fn run(
     ensures err { OnErr result (printed.new < length (lines_of input.now)) }
 {
     let mut at = 0;
-    let mut left = session::call_count(input);
-    while left > 0 {
-        let after = turn(
+    let n = session::call_count(input);
+    for _ in 0..n {
+        let next = turn(
             rt, input, at, printed, words, longs, floats, contexts, history, frames, reply, out,
         )?;
-        at += after.size;
-        left = left_behind(left, after.going);
+        match next {
+            Some(size) => at += size,
+            None => return Ok(()),
+        }
     }
     Ok(())
 }

@@ -11,7 +11,7 @@ use lib.Ieee.{Float, nan}
 use borrow.Author.Tests.{ne_eqb, lt-ltb, le-ltb, leb-true}
 use Rattle.floats.specs.Defs.{zero32}
 use Rattle.rows.specs.Rows.{part, length_part}
-use Rattle.sink.specs.declared.Downmix.{Downmix}
+use Rattle.std.specs.Prelude.{Option}
 use Rattle.sink.specs.Sink.{Silent, row_or, sample_of, frames, factors_of, side, left_of, right_of, input_of, sink_of}
 use Rattle.sink.specs.Laws.{frames_ext}
 
@@ -35,7 +35,7 @@ module _ (buffers silent : List Float) (b n : ℕ) where
       go true = get_or-take n (drop (b * n) buffers) i nan h ∙ get_or-drop (b * n) buffers i nan
       go false = get_or-take n silent i nan h ∙ z.zeros i h
 
-module _ (buffers silent : List Float) (n offset : ℕ) (inputs : List ℕ) (count : ℕ) (downmix : Downmix) (out t : List Float) (z : Silent n silent) where
+module _ (buffers silent : List Float) (n offset : ℕ) (inputs : List ℕ) (count : ℕ) (downmix : Option (List Float)) (out t : List Float) (z : Silent n silent) where
   -- xs is input k of the sink
   abbrev Row : ℕ → List Float → Type 0
   Row k xs = xs ≡ row_or buffers silent (offset + get_or inputs k 0) n

@@ -1,13 +1,12 @@
 -- There are 2 n samples in n frames, and each is in [-1, 1] or a NaN; a NaN stays; frames of samples that agree are the same; with no input
 -- all are 0. Assumes nothing.
-use Rattle.std.specs.Prelude.{◌≡◌, refl, false, List, [], ◌∷◌, ◌++◌, ℕ, zero, suc, ◌+◌, ◌*◌, ◌<◌, T, negsuc, length, replicate, Float}
+use Rattle.std.specs.Prelude.{◌≡◌, refl, false, List, [], ◌∷◌, ◌++◌, ℕ, zero, suc, ◌+◌, ◌*◌, ◌<◌, T, negsuc, length, replicate, Float, Option}
 use Rattle.std.proofs.Common.{ap, ◌∙◌, arith, length-append}
 use Rattle.std.specs.Float.{nan, inf, fin, binary32}
 use Rattle.std.specs.Float.Ieee.{is_nan, mul, lt}
 use Rattle.std.specs.Float.Ieee.Fits.{and_i, and_l, and_r}
 use Rattle.floats.specs.Defs.{zero32, clamp_of}
 use Rattle.floats.specs.Bounds.{clamp_unit}
-use Rattle.sink.specs.declared.Downmix.{Downmix}
 use Rattle.sink.specs.Sink.{to_unit, frames, left_of, right_of, sink_of, in_range, each}
 
 -- a NaN stays a NaN
@@ -28,7 +27,7 @@ unfolding frames
 length_frames l r zero = refl
 length_frames l r (suc n) = length-append (frames l r n) (to_unit (l n) ∷ to_unit (r n) ∷ []) ∙ ap (λ (k : ℕ). k + 2) (length_frames l r n) ∙ omega arith
 
-pub length_sink : (buffers : List Float) (n offset : ℕ) (inputs : List ℕ) (count : ℕ) (downmix : Downmix)
+pub length_sink : (buffers : List Float) (n offset : ℕ) (inputs : List ℕ) (count : ℕ) (downmix : Option (List Float))
     → length (sink_of buffers n offset inputs count downmix) ≡ 2 * n
 unfolding sink_of
 length_sink buffers n offset inputs count downmix = length_frames _ _ n
@@ -53,7 +52,7 @@ frames_in l r (suc n) =
     (and_i (in_range x) (each (y ∷ [])) (unit_in (l n)) (and_i (in_range y) (each []) (unit_in (r n)) tt))
 
 -- each sample of a sink's frames is in [-1, 1], or a NaN
-pub sink_in : (buffers : List Float) (n offset : ℕ) (inputs : List ℕ) (count : ℕ) (downmix : Downmix)
+pub sink_in : (buffers : List Float) (n offset : ℕ) (inputs : List ℕ) (count : ℕ) (downmix : Option (List Float))
     → T (each (sink_of buffers n offset inputs count downmix))
 unfolding sink_of
 sink_in buffers n offset inputs count downmix = frames_in _ _ n
@@ -75,7 +74,7 @@ zero_frames (suc n) =
     rw (zero_frames n, unit_zero, e) (zeros_more (2 * n) zero32)
 
 -- a sink with no input has only zeros
-pub sink_none : (buffers : List Float) (n offset : ℕ) (inputs : List ℕ) (downmix : Downmix)
+pub sink_none : (buffers : List Float) (n offset : ℕ) (inputs : List ℕ) (downmix : Option (List Float))
     → sink_of buffers n offset inputs 0 downmix ≡ replicate (2 * n) zero32
 unfolding sink_of left_of right_of
 sink_none buffers n offset inputs downmix = zero_frames n

@@ -1,11 +1,9 @@
 -- The frames that a device sink makes of the mix buffers. Definitions only.
-use Rattle.std.specs.Prelude.{◌≡◌, Bool, true, false, cond, ◌&&◌, ◌||◌, List, [], ◌∷◌, ◌++◌, ℕ, zero, suc, ◌+◌, ◌*◌, ◌≤◌, ◌<◌, leb, ltb, eqb, negsuc, length, take, get_or, Float}
+use Rattle.std.specs.Prelude.{◌≡◌, Bool, true, false, cond, ◌&&◌, ◌||◌, List, [], ◌∷◌, ◌++◌, ℕ, zero, suc, ◌+◌, ◌*◌, ◌≤◌, ◌<◌, leb, ltb, eqb, negsuc, length, take, get_or, Float, Option, None, Some}
 use Rattle.std.specs.Float.{nan, fin, binary32}
 use Rattle.std.specs.Float.Ieee.{le, is_nan, add, mul, round}
 use Rattle.floats.specs.Defs.{zero32, one, minus_one, clamp_of}
 use Rattle.rows.specs.Rows.{part}
-use Rattle.sink.specs.declared.Downmix.{Downmix}
-use Rattle.sink.specs.declared.Downmix.TheVariants.{Default, Given}
 
 -- n samples of silence
 pub record Silent (n : ℕ) (xs : List Float) : Type 0 where
@@ -34,9 +32,9 @@ abbrev thousandths : ℕ → Float
 thousandths a = round binary32 false a 1000
 
 -- the default factors are 1, 0.707, 0.251 and 0.707
-unfoldable pub factors_of : Downmix → List Float
-factors_of Default = one ∷ thousandths 707 ∷ thousandths 251 ∷ thousandths 707 ∷ []
-factors_of (Given k0 k1 k2 k3) = k0 ∷ k1 ∷ k2 ∷ k3 ∷ []
+unfoldable pub factors_of : Option (List Float) → List Float
+factors_of None = one ∷ thousandths 707 ∷ thousandths 251 ∷ thousandths 707 ∷ []
+factors_of (Some k) = k
 
 -- one side of six, by the factors k: front * k[0] + (centre * k[1] + low * k[2]) + back * k[3]
 unfoldable pub side : List Float → Float → Float → Float → Float → Float
@@ -45,13 +43,13 @@ side k front centre low back =
     add binary32 (add binary32 (mul binary32 front (get_or k 0 nan)) common) (mul binary32 back (get_or k 3 nan))
 
 -- sample i of the left and of the right, for a sink with `count` inputs, of which `ch k` is the k-th
-unfoldable pub left_of : Downmix → ℕ → (ℕ → ℕ → Float) → ℕ → Float
+unfoldable pub left_of : Option (List Float) → ℕ → (ℕ → ℕ → Float) → ℕ → Float
 left_of downmix count ch i =
     cond (eqb count 0) zero32
     (cond (ltb count 6) (ch 0 i)
     (side (factors_of downmix) (ch 0 i) (ch 2 i) (ch 3 i) (ch 4 i)))
 
-unfoldable pub right_of : Downmix → ℕ → (ℕ → ℕ → Float) → ℕ → Float
+unfoldable pub right_of : Option (List Float) → ℕ → (ℕ → ℕ → Float) → ℕ → Float
 right_of downmix count ch i =
     cond (eqb count 0) zero32
     (cond (eqb count 1) (ch 0 i)
@@ -63,7 +61,7 @@ unfoldable pub input_of : List Float → ℕ → ℕ → List ℕ → ℕ → �
 input_of buffers n offset inputs k i = sample_of buffers n (offset + get_or inputs k 0) i
 
 -- `write_sink`
-unfoldable pub sink_of : List Float → ℕ → ℕ → List ℕ → ℕ → Downmix → List Float
+unfoldable pub sink_of : List Float → ℕ → ℕ → List ℕ → ℕ → Option (List Float) → List Float
 sink_of buffers n offset inputs count downmix =
     frames (left_of downmix count (input_of buffers n offset inputs)) (right_of downmix count (input_of buffers n offset inputs)) n
 

@@ -1,5 +1,5 @@
 -- The rounds of a fetch on one channel's row, one after the other. Assumes nothing.
-use Rattle.std.specs.Prelude.{ℕ, ◌+◌, ◌-◌, ◌≤◌, ◌<◌, Bool, true, cond, ◌≡◌, refl, Float, ℤ, drop, get_or, set}
+use Rattle.std.specs.Prelude.{ℕ, ◌+◌, ◌-◌, ◌≤◌, ◌<◌, Bool, true, ◌≡◌, refl, Float, ℤ, drop, get_or, set}
 use Rattle.std.proofs.Common.{arith, ap, ◌∙◌, length-append, length-drop, take-append-drop, length-set, length-take-le, take_at, drop_at, drop-drop}
 use mathlib.Core.List.{List, [], ◌∷◌, ◌++◌, append-nil, append_assoc}
 use Rattle.std.proofs.Math.Path.{sym, subst}
@@ -13,11 +13,9 @@ use Rattle.plan.specs.declared.Act.{Act}
 use Rattle.plan.specs.Rounds.{Round, round_plan, more, Planned, plan_of}
 use Rattle.plan.specs.Fetch.{sofar, Planning, plan_begin, plan_more}
 use Rattle.voice.specs.declared.queue.Queue.{Queue}
-use Rattle.memory.specs.Memory.{read_of}
-use Rattle.adpcm.specs.Context.{context_of}
 use Rattle.plan.specs.Fits.{made_of, made_le, Reads, Rounded, rounded}
 use Rattle.floats.specs.Defs.{zero32}
-use Rattle.sound.specs.Sound.{Deck, perform, perform_all, row_of}
+use Rattle.sound.specs.Sound.{Deck, renewed_context, perform, perform_all, row_of}
 use Rattle.sound.specs.Perform.{fresh, RoomAt, PerformedAt, decode_after, decode_count}
 
 -- what a fetch asks: a buffer plays, the row has 3 places and one for each sample, and the ranges ascend over the memory
@@ -47,13 +45,13 @@ pub perform_after : (s : Source) (m : List ℕ) (table : List ℤ) (c : ℕ) (a 
     → perform s m table c a (record { adpcm = x; out = o })
     ≡ record { adpcm = (perform s m table c a (fresh x)).adpcm; out = o ++ (perform s m table c a (fresh x)).out }
 unfolding perform
-perform_after s m table c a x o = decode_after s m table c a.decode (cond a.renews (context_of (read_of s.ranges m a.context 6)) x) o
+perform_after s m table c a x o = decode_after s m table c a.decode (renewed_context s.ranges m a.context x) o
 
 -- there are as many as the plan says
 pub perform_count : (s : Source) (m : List ℕ) (table : List ℤ) (c : ℕ) (a : Act) (x : AdpcmContext) → Ascending (length m) 0 s.ranges → Reads s a
     → length (perform s m table c a (fresh x)).out ≡ made_of a.decode
 unfolding perform
-perform_count s m table c a x h r = decode_count s m table c a.decode (cond a.renews (context_of (read_of s.ranges m a.context 6)) x) h r.decode
+perform_count s m table c a x h r = decode_count s m table c a.decode (renewed_context s.ranges m a.context x) h r.decode
 
 all_none : (s : Source) (m : List ℕ) (table : List ℤ) (c : ℕ) (k : Deck) → perform_all s m table c [] k ≡ k
 unfolding perform_all

@@ -1,6 +1,6 @@
 -- The fetch as the Rust has it, one loop that reads, decodes and moves (mixer.rs `fetch` and `decode`, line by line), with the bytes of
 -- sample memory at hand. The law at the end: it is the plan, and then the sound of every channel. Assumes nothing.
-use Rattle.std.specs.Prelude.{ℕ, zero, suc, ◌+◌, ◌-◌, ◌*◌, ◌/◌, ◌%◌, ◌^◌, min, Bool, true, false, cond, not, ◌&&◌, ◌||◌, List, [], ◌∷◌, ◌++◌, leb, ltb, eqb, Float, ℤ, length, get_or, take, replicate}
+use Rattle.std.specs.Prelude.{ℕ, zero, suc, ◌+◌, ◌-◌, ◌*◌, ◌/◌, ◌%◌, ◌^◌, min, Bool, true, false, cond, not, ◌&&◌, ◌||◌, List, [], ◌∷◌, ◌++◌, leb, ltb, eqb, Float, ℤ, length, get_or, take, replicate, Option, Some, None}
 use Rattle.ranges.specs.Ranges.{readable_of}
 use Rattle.memory.specs.Memory.{read_of}
 use Rattle.adpcm.specs.Places.{nibble_of, size_of}
@@ -12,8 +12,6 @@ use Rattle.voice.specs.Queue.{buffer_at, end_buffer}
 use Rattle.voice.specs.declared.wave.WaveBuffer.{WaveBuffer}
 use Rattle.voice.specs.declared.queue.Queue.{Queue}
 use Rattle.plan.specs.Source.{Source}
-use Rattle.plan.specs.declared.attempt.Got.{Got}
-use Rattle.plan.specs.declared.attempt.Got.TheVariants.{Missing, Samples}
 use Rattle.plan.specs.Rounds.{Moved, in_loop, at}
 use Rattle.sound.specs.Sound.{table_of, pcm_of}
 
@@ -26,12 +24,12 @@ each_row f c (r ∷ rows) = f c r ∷ each_row f (suc c) rows
 
 -- what a decode leaves: the Option<usize>, the ADPCM context, and the rows
 pub record Decoding : Type 0 where
-  pub got : Got
+  pub got : Option ℕ
   pub adpcm : AdpcmContext
   pub rows : List (List Float)
 
 abbrev pub none : AdpcmContext → List (List Float) → Decoding
-none x rows = record { got = Missing; adpcm = x; rows = rows }
+none x rows = record { got = None; adpcm = x; rows = rows }
 
 unfoldable pub pcm_fused : ℕ → Source → List ℕ → WaveBuffer → ℕ → ℕ → AdpcmContext → List (List Float) → Decoding
 unfolding each_row
@@ -41,7 +39,7 @@ pcm_fused width s m w pos want x rows =
     let addr = (w.addr + pos * frame) % 2 ^ 64 in
     cond (eqb n 0) (none x rows)
     (cond (readable_of s.ranges addr (n * frame))
-    (record { got = Samples n; adpcm = x; rows = each_row (λ c r. r ++ pcm_of width s.channels c (read_of s.ranges m addr (n * frame)) n) 0 rows })
+    (record { got = Some n; adpcm = x; rows = each_row (λ c r. r ++ pcm_of width s.channels c (read_of s.ranges m addr (n * frame)) n) 0 rows })
     (none x rows))
 
 -- the samples on channel 0, and as many zeros on the others
@@ -59,16 +57,16 @@ adpcm_fused s m table w pos want x rows =
     let n = length run.samples in
     cond (leb last first) (none x rows)
     (cond (readable_of s.ranges addr (last - first))
-    (record { got = cond (eqb n 0) Missing (Samples n); adpcm = run.context; rows = each_row (adpcm_row run.samples) 0 rows })
+    (record { got = cond (eqb n 0) None (Some n); adpcm = run.context; rows = each_row (adpcm_row run.samples) 0 rows })
     (none x rows))
 
 unfoldable pub decode_fused : Source → List ℕ → List ℤ → WaveBuffer → ℕ → ℕ → AdpcmContext → List (List Float) → Decoding
 unfolding pcm_fused adpcm_fused each_row
 decode_fused s m table w pos want x rows =
-    cond (eqb want 0) (record { got = Samples 0; adpcm = x; rows = rows })
+    cond (eqb want 0) (record { got = Some 0; adpcm = x; rows = rows })
     (cond (eqb s.format 2 || eqb s.format 5) (pcm_fused (cond (eqb s.format 2) 2 4) s m w pos want x rows)
     (cond (eqb s.format 6) (adpcm_fused s m table w pos want x rows)
-    (record { got = Samples want; adpcm = x; rows = each_row (λ c r. r ++ replicate want zero32) 0 rows })))
+    (record { got = Some want; adpcm = x; rows = each_row (λ c r. r ++ replicate want zero32) 0 rows })))
 
 -- ---- fetch
 
@@ -105,13 +103,13 @@ move_fused q s w total got =
     (record { queue = moved; going = true })
 
 -- what the loop does with a decode
-unfoldable pub turn_of : Fetching → Source → WaveBuffer → ℕ → Decoding → Got → Turn
+unfoldable pub turn_of : Fetching → Source → WaveBuffer → ℕ → Decoding → Option ℕ → Turn
 unfolding move_fused
-turn_of f s w total d Missing = record {
+turn_of f s w total d None = record {
   state = record { queue = end_buffer (at 0 f.queue.played f.queue.loops f.queue); adpcm = d.adpcm; rows = d.rows; done = f.done; rounds = f.rounds + 1 };
   going = true;
 }
-turn_of f s w total d (Samples got) = record {
+turn_of f s w total d (Some got) = record {
   state = record { queue = (move_fused f.queue s w total got).queue; adpcm = d.adpcm; rows = d.rows; done = f.done + got; rounds = f.rounds + 1 };
   going = (move_fused f.queue s w total got).going;
 }

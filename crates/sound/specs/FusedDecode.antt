@@ -1,6 +1,6 @@
 -- The Rust's decode is the plan of the decode, and then the sound of every channel. Assumes nothing.
 use Prim.Native.Nat.{ℕ, zero, suc, ◌+◌, ◌-◌, ◌*◌, ◌/◌, ◌%◌, ◌^◌, min}
-use Rattle.std.specs.Prelude.{Bool, true, false, ◌||◌, ◌≡◌, leb, eqb, Float, ℤ}
+use Rattle.std.specs.Prelude.{Bool, true, false, ◌||◌, ◌≡◌, leb, eqb, Float, ℤ, Option, Some, None}
 use Rattle.std.proofs.Math.Bool.{cond}
 use mathlib.Core.List.{List, [], ◌∷◌, ◌++◌, append-nil}
 use Rattle.std.proofs.Math.Path.{refl, ap, sym}
@@ -19,8 +19,6 @@ use Rattle.voice.specs.declared.wave.WaveBuffer.{WaveBuffer}
 use Rattle.ranges.specs.Ascending.{Ascending}
 use Rattle.plan.specs.Source.{Source}
 use Rattle.plan.specs.declared.Decode.TheVariants.{Nothing, Adpcm, Silence}
-use Rattle.plan.specs.declared.attempt.Got.{Got}
-use Rattle.plan.specs.declared.attempt.Got.TheVariants.{Missing, Samples}
 use Rattle.plan.specs.declared.attempt.Attempt.{Attempt}
 use Rattle.plan.specs.Attempt.{pcm_plan, adpcm_plan, decode_plan}
 use Rattle.sound.specs.Sound.{decode_adpcm, decode_on}
@@ -65,7 +63,7 @@ module _ (s : Source) (m : List ℕ) (table : List ℤ) (laid : Ascending (lengt
     rows = each_row (λ (c : ℕ) (r : List Float). r ++ (decode_on s m table c a.decode (fresh (y c))).out) 0 rows;
   }
 
-  none_made : (g : Got) → record { got = g; adpcm = y 0; rows = rows } ≡ made (record { got = g; decode = Nothing })
+  none_made : (g : Option ℕ) → record { got = g; adpcm = y 0; rows = rows } ≡ made (record { got = g; decode = Nothing })
   unfolding decode_on
   none_made g = λ i. record { got = g; adpcm = y 0; rows = (each_id 0 rows ∙ each_same _ _ (λ c r. sym (append-nil r)) 0 rows) i }
 
@@ -75,8 +73,8 @@ module _ (s : Source) (m : List ℕ) (table : List ℤ) (laid : Ascending (lengt
       let frame = width * s.channels in
       let n = min want (w.size / frame - start.0) in
       let addr = (w.addr + start.0 * frame) % 2 ^ 64 in
-      by_cond made (eqb n 0) (λ e. none_made Missing)
-      (λ e. by_cond made (readable_of s.ranges addr (n * frame)) (λ r. refl) (λ r. none_made Missing))
+      by_cond made (eqb n 0) (λ e. none_made None)
+      (λ e. by_cond made (readable_of s.ranges addr (n * frame)) (λ r. refl) (λ r. none_made None))
 
   -- a row of an ADPCM read
   row_same : (addr bytes : ℕ) (start : Sample) (want c : ℕ) (r : List Float)
@@ -90,15 +88,15 @@ module _ (s : Source) (m : List ℕ) (table : List ℤ) (laid : Ascending (lengt
   adpcm_made : (addr bytes : ℕ) (start : Sample) (want : ℕ) → readable_of s.ranges addr bytes ≡ true
       → (let run = run_of (read_of s.ranges m addr bytes) start.0 want table (y 0) in
       let n = length run.samples in
-      record { got = cond (eqb n 0) Missing (Samples n); adpcm = run.context; rows = each_row (adpcm_row run.samples) 0 rows })
-      ≡ made (record { got = cond (eqb (count_of bytes start.0 want) 0) Missing (Samples (count_of bytes start.0 want)); decode = Adpcm want addr bytes start })
+      record { got = cond (eqb n 0) None (Some n); adpcm = run.context; rows = each_row (adpcm_row run.samples) 0 rows })
+      ≡ made (record { got = cond (eqb (count_of bytes start.0 want) 0) None (Some (count_of bytes start.0 want)); decode = Adpcm want addr bytes start })
   unfolding decode_on decode_adpcm
   adpcm_made addr bytes start want h =
       let run = run_of (read_of s.ranges m addr bytes) start.0 want table (y 0) in
       let e : length run.samples ≡ count_of bytes start.0 want =
       run_count (read_of s.ranges m addr bytes) start.0 want table (y 0) ∙ ap (λ (n : ℕ). count_of n start.0 want) (length_read m s.ranges addr bytes laid h) in
       λ i. record {
-        got = cond (eqb (e i) 0) Missing (Samples (e i));
+        got = cond (eqb (e i) 0) None (Some (e i));
         adpcm = run.context;
         rows = each_same (adpcm_row run.samples) (λ (c : ℕ) (r : List Float). r ++ (decode_on s m table c (Adpcm want addr bytes start) (fresh (y c))).out) (row_same addr bytes start want) 0 rows i;
       }
@@ -109,19 +107,19 @@ module _ (s : Source) (m : List ℕ) (table : List ℤ) (laid : Ascending (lengt
       let first = nibble_of start.0 / 2 in
       let last = min (size_of (start.0 + want)) w.size in
       let addr = (w.addr + first) % 2 ^ 64 in
-      by_cond made (leb last first) (λ e. none_made Missing)
+      by_cond made (leb last first) (λ e. none_made None)
       (λ e.
-      by_cond made (readable_of s.ranges addr (last - first)) (λ r. adpcm_made addr (last - first) start want r) (λ r. none_made Missing))
+      by_cond made (readable_of s.ranges addr (last - first)) (λ r. adpcm_made addr (last - first) start want r) (λ r. none_made None))
 
-  silence_made : (n : ℕ) → record { got = Samples n; adpcm = y 0; rows = each_row (λ (c : ℕ) (r : List Float). r ++ replicate n zero32) 0 rows }
-      ≡ made (record { got = Samples n; decode = Silence n })
+  silence_made : (n : ℕ) → record { got = Some n; adpcm = y 0; rows = each_row (λ (c : ℕ) (r : List Float). r ++ replicate n zero32) 0 rows }
+      ≡ made (record { got = Some n; decode = Silence n })
   unfolding decode_on
   silence_made n = refl
 
   pub decode_same : (w : WaveBuffer) (start : Sample) (want : ℕ) → decode_fused s m table w start.0 want (y 0) rows ≡ made (decode_plan s w start want)
   unfolding decode_fused decode_plan
   decode_same w start want =
-      by_cond made (eqb want 0) (λ e. none_made (Samples 0))
+      by_cond made (eqb want 0) (λ e. none_made (Some 0))
       (λ e. split (λ (width : ℕ). pcm_fused width s m w start.0 want (y 0) rows) (eqb s.format 2) (eqb s.format 5) _
       ∙ by_cond made (eqb s.format 2) (λ f. pcm_same 2 w start want)
       (λ f. by_cond made (eqb s.format 5) (λ g. pcm_same 4 w start want)

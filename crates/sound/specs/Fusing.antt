@@ -2,11 +2,12 @@
 use Prim.Native.Nat.{ℕ, zero, suc, ◌+◌, ◌-◌, ◌%◌, ◌^◌, ◌≤◌, min}
 use Rattle.std.proofs.Common.{arith, ap, ◌∙◌, length-append, take_all}
 use Rattle.std.proofs.Math.Bool.{Bool, true, false, cond}
-use Rattle.std.specs.Prelude.{not, ◌&&◌, ◌||◌, ◌≡◌, leb, ltb, Float, ℤ, length, replicate}
+use Rattle.std.specs.Prelude.{not, ◌&&◌, ◌||◌, ◌≡◌, leb, ltb, Float, ℤ, length, replicate, Option, Some, None}
 use mathlib.Core.List.{List, [], ◌∷◌, ◌++◌, append-nil, append_assoc}
 use Rattle.std.proofs.Math.Path.{refl, sym}
 use Rattle.std.proofs.Math.Dec.{eqb}
-use Rattle.ranges.specs.Ranges.{readable_of}
+use Rattle.std.specs.Bool.{then_some}
+use Rattle.ranges.specs.Ranges.{Range, readable_of}
 use Rattle.memory.specs.Memory.{read_of}
 use Rattle.adpcm.specs.Context.{context_of}
 use Rattle.adpcm.specs.declared.context.AdpcmContext.{AdpcmContext}
@@ -17,13 +18,11 @@ use Rattle.voice.specs.declared.queue.Queue.{Queue}
 use Rattle.ranges.specs.Ascending.{Ascending}
 use Rattle.plan.specs.Source.{Source}
 use Rattle.plan.specs.declared.Act.{Act}
-use Rattle.plan.specs.declared.attempt.Got.{Got}
-use Rattle.plan.specs.declared.attempt.Got.TheVariants.{Missing, Samples}
 use Rattle.plan.specs.Attempt.{sample, decode_plan}
 use Rattle.plan.specs.Fits.{Fits, fits_none, fits_more, plan_made, plan_table}
 use Rattle.plan.specs.Rounds.{Moved, Round, in_loop, at, renews_of, loops_over, resets_played, reset_if, after_missing, after_loop, span_over}
-use Rattle.plan.specs.Rounds.{after_got, round_of, round_plan, more, Planned, grown, rounds, has_table, plan_of}
-use Rattle.sound.specs.Sound.{table_of, Deck, perform, perform_all, row_of}
+use Rattle.plan.specs.Rounds.{context_read, after_got, round_of, round_plan, more, Planned, grown, rounds, has_table, plan_of}
+use Rattle.sound.specs.Sound.{table_of, Deck, renewed_context, perform, perform_all, row_of}
 use Rattle.sound.specs.Perform.{fresh}
 use Rattle.sound.specs.FusedDecode.{each_same, each_id, each_each, made, decode_same}
 use Rattle.sound.specs.Channel.{perform_after, perform_count, all_after}
@@ -67,24 +66,30 @@ move_same q s w total got =
 abbrev turned : Fetching → Round → AdpcmContext → List (List Float) → Turn
 turned f r x rows = record { state = record { queue = r.queue; adpcm = x; rows = rows; done = f.done + r.got; rounds = f.rounds + 1 }; going = r.going }
 
-turn_same : (f : Fetching) (s : Source) (w : WaveBuffer) (total : ℕ) (d : Decoding) (act : Act) (g : Got)
+turn_same : (f : Fetching) (s : Source) (w : WaveBuffer) (total : ℕ) (d : Decoding) (act : Act) (g : Option ℕ)
     → turn_of f s w total d g ≡ turned f (round_of f.queue s w total act g) d.adpcm d.rows
 unfolding turn_of round_of after_missing
-turn_same f s w total d act Missing =
+turn_same f s w total d act None =
     let e : f.done ≡ f.done + 0 = omega arith in
     λ i. record {
       state = record { queue = end_buffer (at 0 f.queue.played f.queue.loops f.queue); adpcm = d.adpcm; rows = d.rows; done = e i; rounds = f.rounds + 1 };
       going = true;
     }
-turn_same f s w total d act (Samples n) = λ i. record {
+turn_same f s w total d act (Some n) = λ i. record {
   state = record { queue = (move_same f.queue s w total n i).queue; adpcm = d.adpcm; rows = d.rows; done = f.done + n; rounds = f.rounds + 1 };
   going = (move_same f.queue s w total n i).going;
 }
 
-act_of : (q : Queue) (s : Source) (w : WaveBuffer) (total : ℕ) (act : Act) (g : Got) → (round_of q s w total act g).act ≡ act
+act_of : (q : Queue) (s : Source) (w : WaveBuffer) (total : ℕ) (act : Act) (g : Option ℕ) → (round_of q s w total act g).act ≡ act
 unfolding round_of
-act_of q s w total act Missing = refl
-act_of q s w total act (Samples n) = refl
+act_of q s w total act None = refl
+act_of q s w total act (Some n) = refl
+
+-- a context that is read where a flag is set
+context_if : (rs : List Range) (m : List ℕ) (addr : ℕ) (b : Bool) (x : AdpcmContext)
+    → cond b (context_of (read_of rs m addr 6)) x ≡ renewed_context rs m (then_some b addr) x
+context_if rs m addr true x = refl
+context_if rs m addr false x = refl
 
 module _ (s : Source) (m : List ℕ) (table : List ℤ) (laid : Ascending (length m) 0 s.ranges) (count : ℕ) where
   -- a round, of channels whose contexts are z
@@ -97,18 +102,19 @@ module _ (s : Source) (m : List ℕ) (table : List ℤ) (laid : Ascending (lengt
       let q = f.queue in
       let w = buffer_at q q.index in
       let ctx = context_of (read_of s.ranges m w.context 6) in
-      let renews : Bool = renews_of s w q.offset in
-      let y : ℕ → AdpcmContext = λ c. cond renews ctx (z c) in
+      let context : Option ℕ = context_read s w q.offset in
+      let y : ℕ → AdpcmContext = λ c. renewed_context s.ranges m context (z c) in
       let looped = in_loop s.buffers_v2 w q.loops in
       let start = cond looped w.loop_start w.start in
       let total = cond looped w.loop_end w.end - start in
       let want = min (count - f.done) (total - q.offset) in
       let pos = (start + q.offset) % 2 ^ 32 in
       let tried = decode_plan s w (sample pos) want in
-      let act : Act = record { renews = renews; context = w.context; decode = tried.decode } in
+      let act : Act = record { context = context; decode = tried.decode } in
       let read = eqb q.offset 0 && (eqb s.format 6 && (not (eqb w.context 0) && readable_of s.ranges w.context 6)) in
+      let begun : cond read ctx f.adpcm ≡ y 0 = (λ i. cond read ctx (sym e i)) ∙ context_if s.ranges m w.context read (z 0) in
       let d : decode_fused s m table w pos want (cond read ctx f.adpcm) f.rows ≡ made s m table laid f.rows y tried =
-      (λ i. decode_fused s m table w pos want (cond read ctx (sym e i)) f.rows) ∙ decode_same s m table laid f.rows y w (sample pos) want in
+      (λ i. decode_fused s m table w pos want (begun i) f.rows) ∙ decode_same s m table laid f.rows y w (sample pos) want in
       (λ i. turn_of f s w total (d i) (d i).got) ∙ turn_same f s w total (made s m table laid f.rows y tried) act tried.got
       ∙ (λ i.
       let a = sym (act_of q s w total act tried.got) i in

@@ -1,5 +1,5 @@
 -- What one act writes into a row, and where. Assumes nothing.
-use Rattle.std.specs.Prelude.{ℕ, zero, suc, ◌+◌, ◌*◌, ◌≤◌, Bool, true, false, cond, ◌||◌, ◌≡◌, Float, ℤ, length, take, drop, replicate, eqb}
+use Rattle.std.specs.Prelude.{ℕ, zero, suc, ◌+◌, ◌*◌, ◌≤◌, Bool, true, false, ◌||◌, ◌≡◌, Float, ℤ, length, take, drop, replicate, eqb}
 use mathlib.Core.List.{List, [], ◌++◌, append-nil}
 use Rattle.std.proofs.Math.Path.{refl}
 use Rattle.std.proofs.Common.{ap, sym, ◌∙◌, drop-drop, arith, eqb-true, ne_eqb}
@@ -9,7 +9,6 @@ use Rattle.std.proofs.lemmas.List.{length-map, length-replicate}
 use Rattle.std.proofs.lemmas.Bool.{eqb-false}
 use Rattle.memory.specs.Memory.{read_of}
 use Rattle.memory.proofs.Bytes.{length_read}
-use Rattle.adpcm.specs.Context.{context_of}
 use Rattle.adpcm.specs.Decode.{run_of, floated, Decodes}
 use Rattle.adpcm.specs.Runs.{count_of, run_count}
 use Rattle.floats.specs.Defs.{zero32}
@@ -22,7 +21,7 @@ use Rattle.plan.specs.declared.Decode.{Decode}
 use Rattle.plan.specs.declared.Decode.TheVariants.{Nothing, Pcm, Adpcm, Silence}
 use Rattle.plan.specs.Fits.{want_of, made_of, reads_of, formed_of}
 use Rattle.sound.specs.Fill.{length_tab}
-use Rattle.sound.specs.Sound.{pcm_of, Deck, decode_adpcm, decode_on, perform}
+use Rattle.sound.specs.Sound.{pcm_of, Deck, decode_adpcm, decode_on, renewed_context, perform}
 
 -- a channel that has no samples yet
 abbrev pub fresh : AdpcmContext → Deck
@@ -153,7 +152,7 @@ module _ {s : Source} {m : List ℕ} {d e : Decode} {out : List Float} (h : d �
 -- ---- an act
 
 pub performed_at : (s : Source) (m : List ℕ) (table : List ℤ) (c : ℕ) (a : Act) (x : AdpcmContext) {y z : AdpcmContext} (at : ℕ) {row part after whole : List Float} {n : ℕ}
-    → y ≡ cond a.renews (context_of (read_of s.ranges m a.context 6)) x → part ≡ drop at row → whole ≡ take at row ++ after
+    → y ≡ renewed_context s.ranges m a.context x → part ≡ drop at row → whole ≡ take at row ++ after
     → Performed (decode_on s m table c a.decode (fresh y)) part after n z → PerformedAt at (perform s m table c a (fresh x)) row whole n z
 unfolding perform
 performed_at s m table c a x at {row} {part} {after} {whole} {n} e f g p =

@@ -1,10 +1,12 @@
 -- The sound of a fetch: what the acts of a plan make of the bytes of sample memory, for one channel.
-use Rattle.std.specs.Prelude.{ℕ, zero, suc, ◌+◌, ◌-◌, ◌*◌, Bool, true, false, cond, List, [], ◌∷◌, ◌++◌, Float, ℤ, pos, length, replicate}
+use Rattle.std.specs.Prelude.{ℕ, zero, suc, ◌+◌, ◌-◌, ◌*◌, Bool, true, false, List, [], ◌∷◌, ◌++◌, Float, ℤ, pos, length, replicate}
+use Rattle.std.specs.Prelude.{Option, Some, None}
 use Rattle.std.specs.Float.{fin, binary32}
 use Rattle.std.specs.Float.Ieee.{mul, of_bits, of_int}
 use Rattle.std.specs.Int.{w16}
 use Rattle.std.proofs.Common.{to_z}
 use Rattle.fields.specs.Fields.{field_at}
+use Rattle.ranges.specs.Ranges.{Range}
 use Rattle.memory.specs.Memory.{read_of}
 use Rattle.adpcm.specs.Context.{context_of, coefficients_of}
 use Rattle.adpcm.specs.Decode.{run_of, floated}
@@ -53,9 +55,14 @@ decode_on s m table c (Pcm width addr n) k =
 decode_on s m table c (Adpcm want addr bytes start) k = decode_adpcm c (read_of s.ranges m addr bytes) start want table k
 decode_on s m table c (Silence n) k = record { adpcm = k.adpcm; out = k.out ++ replicate n zero32 }
 
+-- the context after a read from an address, where one is made
+abbrev pub renewed_context : List Range → List ℕ → Option ℕ → AdpcmContext → AdpcmContext
+renewed_context rs m None x = x
+renewed_context rs m (Some addr) x = context_of (read_of rs m addr 6)
+
 -- an act: a context that is read first, then the decode
 abbrev pub renewed : Source → List ℕ → Act → Deck → Deck
-renewed s m a k = record { adpcm = cond a.renews (context_of (read_of s.ranges m a.context 6)) k.adpcm; out = k.out }
+renewed s m a k = record { adpcm = renewed_context s.ranges m a.context k.adpcm; out = k.out }
 
 unfoldable pub perform : Source → List ℕ → List ℤ → ℕ → Act → Deck → Deck
 unfolding decode_on

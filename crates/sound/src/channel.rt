@@ -6,6 +6,7 @@ ghost use Rattle.sound.specs.Channel.{Ready, FetchedBy};
 use crate::act::play;
 use crate::pcm::zeros_from;
 use adpcm::AdpcmContext;
+use memory::SampleMemory;
 use plan::Source;
 use voice::Queue;
 
@@ -13,17 +14,16 @@ use voice::Queue;
 pub fn fetch_channel(
     q: Queue,
     s: Source,
-    ranges: &[u64],
-    memory: &[u8],
+    memory: &SampleMemory,
     coefficients: &[i16; 16],
     adpcm: AdpcmContext,
     history: [f32; 3],
     c: u32,
     out: &mut [f32],
 ) -> AdpcmContext
-    requires ready { Ready q (over s ranges.now) memory.now out.old }
+    requires ready { Ready q (over s memory.now.ranges.now) memory.now.bytes.now out.old }
     requires c_lt_channels { c < s.channels }
-    ensures { FetchedBy q (over s ranges.now) memory.now coefficients.now c adpcm history
+    ensures { FetchedBy q (over s memory.now.ranges.now) memory.now.bytes.now coefficients.now c adpcm history
         (length out.old - 3) out.new result }
 {
     out[0] = history[0];
@@ -37,30 +37,15 @@ pub fn fetch_channel(
     let mut rounds: u32 = 0;
     let mut going = plan::begins(spot, true, done, count);
     while rounds < 64 && going {
-        let b = spot.index as usize;
-        let wb = buffers[b];
-        let r = plan::plan_round(wb, spot, s, ranges, count - done);
-        let act = r.act;
-        let p = play(
-            act,
-            s,
-            ranges,
-            memory,
-            coefficients,
-            x,
-            c,
-            out,
-            3 + done as usize,
-        );
-        let left = p.adpcm;
-        x = left;
-        let next = r.spot;
-        spot = next;
+        let wb = buffers[spot.index as usize];
+        let r = plan::plan_round(wb, spot, s, memory.ranges, count - done);
+        let p = play(r.act, s, memory, coefficients, x, c, out, 3 + done as usize);
+        x = p.adpcm;
+        spot = r.spot;
         done += r.got;
         rounds += 1;
-        going = plan::begins(next, r.going, done, count);
+        going = plan::begins(spot, r.going, done, count);
     }
-    let at = 3 + done as usize;
-    zeros_from(out, at);
+    zeros_from(out, 3 + done as usize);
     x
 }

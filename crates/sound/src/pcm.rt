@@ -1,11 +1,11 @@
 // PCM: one channel of frames that are read, as floats of 16-bit size.
-ghost use Rattle.std.specs.Prelude.{◌≡◌, true, ◌||◌, ◌++◌, ◌+◌, ◌-◌, ◌*◌, ◌/◌, ◌≤◌, ◌<◌, ◌^◌, min, eqb, length, take, drop, replicate};
+ghost use Rattle.std.specs.Prelude.{◌≡◌, true, ◌||◌, ◌++◌, ◌+◌, ◌-◌, ◌*◌, ◌≤◌, ◌<◌, ◌^◌, eqb, length, take, drop, replicate};
 ghost use Rattle.ranges.specs.Ranges.{ranges_of, readable_of};
-ghost use Rattle.ranges.specs.Ascending.{Ascending};
 ghost use Rattle.memory.specs.Memory.{read_of};
 ghost use Rattle.floats.specs.Defs.{zero32};
 ghost use Rattle.sound.specs.Sound.{pcm_at, pcm_of};
 
+use memory::SampleMemory;
 use plan::Source;
 
 // Where the sample of channel c in frame j begins.
@@ -20,7 +20,7 @@ fn place(j: usize, channels: usize, c: usize, width: usize) -> usize
 fn int16_at(d: &[u8], o: usize) -> f32
     ensures { result ≡ pcm_at 2 d.now o }
 {
-    fields::signed16(fields::u16_at(d, o)) as f32
+    fields::u16_at(d, o).cast_signed() as f32
 }
 
 // A float, times 32768.
@@ -47,10 +47,8 @@ fn frames(width: usize, d: &[u8], channels: usize, c: usize, n: usize, out: &mut
     requires channels_bound { (channels ≤ 6) × (c < 2 ^ 32) × (n < 2 ^ 32) × (n ≤ length out.old) }
     ensures { out.new ≡ pcm_of width channels c d.now n ++ drop n out.old }
 {
-    let mut j = 0usize;
-    while j < n {
+    for j in 0..n {
         out[j] = sample_at(width, d, place(j, channels, c, width));
-        j += 1;
     }
 }
 
@@ -59,11 +57,7 @@ pub fn zeros(n: usize, out: &mut [f32])
     requires { n ≤ length out.old }
     ensures { out.new ≡ replicate n zero32 ++ drop n out.old }
 {
-    let mut j = 0usize;
-    while j < n {
-        out[j] = 0.0;
-        j += 1;
-    }
+    out[..n].fill(0.0);
 }
 
 // Zeros from a place on.
@@ -75,38 +69,24 @@ pub fn zeros_from(out: &mut [f32], at: usize)
     zeros(n, &mut out[at..]);
 }
 
-// How many whole frames a stretch has room for, at most n.
-fn whole_frames(room: u64, frame: u64, n: u64) -> u64
-    requires { 0 < frame }
-    ensures { result ≡ min n (room / frame) }
-{
-    let whole = room / frame;
-    if whole < n {
-        return whole;
-    }
-    n
-}
-
 // One frame at an address that no range has whole: it is gathered. Its sample of channel c into the front of out.
 fn straddling_frame(
     width: usize,
     addr: u64,
     channels: usize,
-    ranges: &[u64],
-    memory: &[u8],
+    memory: &SampleMemory,
     c: usize,
     out: &mut [f32],
 )
     requires width_value { eqb width 2 || eqb width 4 ≡ true }
     requires channels_bound { (channels ≤ 6) × (c < channels) × (1 ≤ length out.old) }
-    requires ascending { Ascending (length memory.now) 0 (ranges_of ranges.now) }
-    requires channels_value { readable_of (ranges_of ranges.now) addr (width * channels) ≡ true }
+    requires channels_value { readable_of (ranges_of memory.now.ranges.now) addr (width * channels) ≡ true }
     ensures { out.new
-        ≡ pcm_of width channels c (read_of (ranges_of ranges.now) memory.now addr (width * channels)) 1
+        ≡ pcm_of width channels c (read_of (ranges_of memory.now.ranges.now) memory.now.bytes.now addr (width * channels)) 1
         ++ drop 1 out.old }
 {
     let frame = width * channels;
-    let block = across::frame(ranges, memory, addr, frame);
+    let block = across::frame(memory, addr, frame);
     frames(width, &block[..frame], channels, c, 1, out);
 }
 
@@ -117,31 +97,30 @@ fn next_frames(
     addr: u64,
     n: usize,
     channels: usize,
-    ranges: &[u64],
-    memory: &[u8],
+    memory: &SampleMemory,
     c: usize,
     out: &mut [f32],
 ) -> usize
     requires width_value { eqb width 2 || eqb width 4 ≡ true }
     requires channels_bound { (channels ≤ 6) × (c < channels) × (0 < n) × (n < 2 ^ 32) × (n ≤ length out.old) }
-    requires ascending { Ascending (length memory.now) 0 (ranges_of ranges.now) }
-    requires channels_value { readable_of (ranges_of ranges.now) addr (n * (width * channels)) ≡ true }
+    requires channels_value { readable_of (ranges_of memory.now.ranges.now) addr (n * (width * channels)) ≡ true }
     ensures result_nonzero { (0 < result) × (result ≤ n) }
     ensures out_after { out.new
-        ≡ pcm_of width channels c (read_of (ranges_of ranges.now) memory.now addr (result * (width * channels))) result
+        ≡ pcm_of width channels c (read_of (ranges_of memory.now.ranges.now) memory.now.bytes.now addr (result * (width * channels))) result
         ++ drop result out.old }
 {
     let frame = width * channels;
-    let s = ranges::stretch_at(ranges, addr);
-    let whole = whole_frames(s.room, frame as u64, n as u64) as usize;
-    if whole == 0 {
-        straddling_frame(width, addr, channels, ranges, memory, c, out);
-        return 1;
+    if let Some(s) = ranges::stretch_at(memory.ranges, addr) {
+        let whole = (n as u64).min(s.room / frame as u64) as usize;
+        if whole != 0 {
+            let at = s.at as usize;
+            let end = at + whole * frame;
+            frames(width, &memory.bytes[at..end], channels, c, whole, out);
+            return whole;
+        }
     }
-    let at = s.at as usize;
-    let end = at + whole * frame;
-    frames(width, &memory[at..end], channels, c, whole, out);
-    whole
+    straddling_frame(width, addr, channels, memory, c, out);
+    1
 }
 
 // Channel c of n frames at an address, stretch by stretch, into the front of out.
@@ -150,53 +129,32 @@ fn all_frames(
     addr: u64,
     n: usize,
     channels: usize,
-    ranges: &[u64],
-    memory: &[u8],
+    memory: &SampleMemory,
     c: usize,
     out: &mut [f32],
 )
     requires width_value { eqb width 2 || eqb width 4 ≡ true }
     requires channels_bound { (channels ≤ 6) × (c < channels) × (n < 2 ^ 32) × (n ≤ length out.old) }
-    requires ascending { Ascending (length memory.now) 0 (ranges_of ranges.now) }
-    requires channels_value { readable_of (ranges_of ranges.now) addr (n * (width * channels)) ≡ true }
+    requires channels_value { readable_of (ranges_of memory.now.ranges.now) addr (n * (width * channels)) ≡ true }
     ensures { out.new
-        ≡ pcm_of width channels c (read_of (ranges_of ranges.now) memory.now addr (n * (width * channels))) n
+        ≡ pcm_of width channels c (read_of (ranges_of memory.now.ranges.now) memory.now.bytes.now addr (n * (width * channels))) n
         ++ drop n out.old }
 {
     let frame = width * channels;
     let mut done = 0usize;
     while done < n {
         let at = addr + (done * frame) as u64;
-        let made = next_frames(
-            width,
-            at,
-            n - done,
-            channels,
-            ranges,
-            memory,
-            c,
-            &mut out[done..],
-        );
+        let made = next_frames(width, at, n - done, channels, memory, c, &mut out[done..]);
         done += made;
     }
 }
 
 // Channel c of n frames of a width that are read at an address, into the front of out.
-pub fn pcm(
-    width: u32,
-    addr: u64,
-    n: u32,
-    s: Source,
-    ranges: &[u64],
-    memory: &[u8],
-    c: u32,
-    out: &mut [f32],
-)
+pub fn pcm(width: u32, addr: u64, n: u32, s: Source, memory: &SampleMemory, c: u32, out: &mut [f32])
     requires width_value { (eqb width 2 || eqb width 4 ≡ true) × (s.channels ≤ 6) × (c < s.channels) × (n ≤ length out.old) }
-    requires ascending { Ascending (length memory.now) 0 (ranges_of ranges.now) }
-    requires channels_value { readable_of (ranges_of ranges.now) addr (n * (width * s.channels)) ≡ true }
+    requires channels_value { readable_of (ranges_of memory.now.ranges.now) addr (n * (width * s.channels)) ≡ true }
     ensures { out.new
-        ≡ pcm_of width s.channels c (read_of (ranges_of ranges.now) memory.now addr (n * (width * s.channels))) n
+        ≡ pcm_of width s.channels c (read_of (ranges_of memory.now.ranges.now) memory.now.bytes.now addr (n * (width * s.channels))) n
         ++ drop n out.old }
 {
     all_frames(
@@ -204,7 +162,6 @@ pub fn pcm(
         addr,
         n as usize,
         s.channels as usize,
-        ranges,
         memory,
         c as usize,
         out,

@@ -6,7 +6,6 @@ ghost use Rattle.rows.specs.Rows.{put};
 ghost use Rattle.sound_rows.specs.SoundRow.{words_of_context, sound_of, contexts_of, history_of};
 
 use adpcm::AdpcmContext;
-use fields::{bits16, signed16};
 use voice::{History, Sound};
 
 // The sound in the first 3 contexts and 18 floats.
@@ -16,18 +15,14 @@ pub fn load_sound(contexts: &[u16], history: &[f32]) -> Sound
     ensures { result ≡ sound_of contexts.now history.now }
 {
     let mut samples = [0.0f32; 18];
-    rows::copy_out_f32(&mut samples, history, 0);
-    let history0 = signed16(contexts[1]);
-    let history1 = signed16(contexts[2]);
-    let adpcm = AdpcmContext {
-        pred_scale: contexts[0],
-        history0,
-        history1,
-    };
-    let kept = History { samples };
+    rows::copy_out(&mut samples, history, 0);
     Sound {
-        adpcm,
-        history: kept,
+        adpcm: AdpcmContext {
+            pred_scale: contexts[0],
+            history0: contexts[1].cast_signed(),
+            history1: contexts[2].cast_signed(),
+        },
+        history: History { samples },
     }
 }
 
@@ -36,18 +31,19 @@ fn store_context(c: AdpcmContext, contexts: &mut [u16], at: usize)
     requires { at + 3 ≤ length contexts.old }
     ensures { contexts.new ≡ put contexts.old at (words_of_context c) }
 {
-    let history0 = bits16(c.history0);
-    let history1 = bits16(c.history1);
-    let row = [c.pred_scale, history0, history1];
-    rows::copy_in_u16(contexts, at, &row);
+    let row = [
+        c.pred_scale,
+        c.history0.cast_unsigned(),
+        c.history1.cast_unsigned(),
+    ];
+    rows::copy_in(contexts, at, &row);
 }
 
 fn store_history(h: History, history: &mut [f32], at: usize)
     requires { at + 18 ≤ length history.old }
     ensures { history.new ≡ put history.old at h.samples }
 {
-    let row = h.samples;
-    rows::copy_in_f32(history, at, &row);
+    rows::copy_in(history, at, &h.samples);
 }
 
 // The sound's rows in place of those at the two places.
@@ -57,8 +53,6 @@ pub fn store_sound(s: Sound, contexts: &mut [u16], at_c: usize, history: &mut [f
     ensures contexts_after { contexts.new ≡ put contexts.old at_c (contexts_of s) }
     ensures history_after { history.new ≡ put history.old at_h (history_of s) }
 {
-    let adpcm = s.adpcm;
-    store_context(adpcm, contexts, at_c);
-    let kept = s.history;
-    store_history(kept, history, at_h);
+    store_context(s.adpcm, contexts, at_c);
+    store_history(s.history, history, at_h);
 }

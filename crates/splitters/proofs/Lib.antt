@@ -1,4 +1,2 @@
-pub mod InTurn
-pub mod Places
 pub mod Stores
 pub mod Stride

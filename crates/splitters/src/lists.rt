@@ -2,7 +2,7 @@
 ghost use Rattle.std.specs.Prelude.{◌≡◌, ◌+◌, ◌*◌, ◌≤◌, ◌<◌, ◌^◌, length};
 ghost use Rattle.rows.specs.Rows.{put};
 ghost use Rattle.rows.specs.Tables.{table};
-ghost use Rattle.splitters.specs.Lists.{entry_of, with_list, next_of, lists, splitter_step, splitters_from};
+ghost use Rattle.splitters.specs.Lists.{entry_of, with_list, next_of, lists, splitter_step};
 
 use crate::{DESTINATION_MAGIC, SPLITTER_MAGIC};
 
@@ -11,10 +11,8 @@ fn put_entries(d: &[u8], at: usize, n: usize, words: &mut [u32], to: usize)
     requires { (at < 2 ^ 63) × (n ≤ 128) × (to + n ≤ length words.old) }
     ensures { words.new ≡ put words.old to (table n (entry_of d.now at)) }
 {
-    let mut k = 0;
-    while k < n {
+    for k in 0..n {
         words[to + k] = fields::positive(fields::u32_at(d, at + 0x10 + k * 4));
-        k += 1;
     }
 }
 
@@ -38,13 +36,11 @@ fn next_place(d: &[u8], at: usize, n: usize) -> usize
 {
     let next = at + 0x10 + n * 4;
     let magic = fields::u32_at(d, next);
-    if magic == SPLITTER_MAGIC {
-        return next;
+    if magic == SPLITTER_MAGIC || magic == DESTINATION_MAGIC {
+        next
+    } else {
+        next + 0xc
     }
-    if magic == DESTINATION_MAGIC {
-        return next;
-    }
-    next + 0xc
 }
 
 // The record at `at`: where the next begins.
@@ -52,31 +48,7 @@ pub fn read_splitter(d: &[u8], at: usize, ns: usize, nd: usize, words: &mut [u32
     requires { (at < 2 ^ 63) × (nd ≤ 128) × (ns * 129 ≤ length words.old) }
     ensures { (lists result words.new ≡ splitter_step ns nd d.now (lists at words.old)) × (result ≤ at + 540) }
 {
-    let n = fields::least(fields::u32_at(d, at + 0xc) as usize, nd);
+    let n = (fields::u32_at(d, at + 0xc) as usize).min(nd);
     store_list(d, at, n, ns, words);
     next_place(d, at, n)
-}
-
-// At most `count` splitters: where they end.
-pub fn read_splitters(
-    d: &[u8],
-    from: usize,
-    count: u32,
-    ns: usize,
-    nd: usize,
-    words: &mut [u32],
-) -> usize
-    requires { (nd ≤ 128) × (ns * 129 ≤ length words.old) × (from < 2 ^ 63 + 540) }
-    ensures { (lists result words.new ≡ splitters_from ns nd d.now count from words.old) × (result < 2 ^ 63 + 540) }
-{
-    let mut at = from;
-    let mut k: u32 = 0;
-    while k < count {
-        if fields::u32_at(d, at) != SPLITTER_MAGIC {
-            return at;
-        }
-        at = read_splitter(d, at, ns, nd, words);
-        k += 1;
-    }
-    at
 }

@@ -7,8 +7,8 @@ ghost use Rattle.state.specs.State.{places_of, At};
 
 use params::Params;
 
-// How many mixes there are; where the rows of mixes, sinks, and splitters with destinations begin in the words; where those of channel resources,
-// mixes, sinks and destinations begin in the floats; and how long each slice is.
+// How many mixes there are; where the rows of mixes, sinks, and splitters with destinations begin in the words; where those of channel
+// resources, mixes, sinks and destinations begin in the floats; and how long each slice is.
 #[derive(Clone, Copy)]
 pub struct Places {
     pub mixes: usize,
@@ -34,29 +34,26 @@ pub fn places_of(p: Params) -> Places
     let voices = p.voices as usize;
     let mixes = p.sub_mixes as usize + 1;
     let sinks = p.sinks as usize;
-    let splitters = p.splitters as usize;
     let destinations = p.splitter_destinations as usize;
     let mix_words = 10 + voices * 58;
     let sink_words = mix_words + mixes * 5;
     let list_words = sink_words + sinks * 10;
-    let words = list_words + (splitters * 129 + destinations * 2);
     let resource_floats = voices * 4;
     let mix_floats = resource_floats + voices * 48;
     let sink_floats = mix_floats + mixes * 577;
     let destination_floats = sink_floats + sinks * 4;
-    let floats = destination_floats + destinations * 48;
     Places {
         mixes,
         mix_words,
         sink_words,
         list_words,
-        words,
+        words: list_words + (p.splitters as usize * 129 + destinations * 2),
         longs: 1 + voices * 14,
         resource_floats,
         mix_floats,
         sink_floats,
         destination_floats,
-        floats,
+        floats: destination_floats + destinations * 48,
         contexts: voices * 3,
         history: voices * 18,
     }

@@ -26,8 +26,7 @@ pub fn idle(k: usize, words: &[u32]) -> bool
     ensures { result ≡ true → Idle k words.now }
 {
     let w = FIRST_WORD + k * VOICE_WORDS;
-    let we = w + VOICE_WORDS;
-    voice_rows::idle(&words[w..we])
+    voice_rows::idle(&words[w..w + VOICE_WORDS])
 }
 
 // Voice k.
@@ -36,12 +35,13 @@ fn load_voice_at(k: usize, words: &[u32], longs: &[u64], floats: &[f32]) -> Voic
     ensures { result ≡ voice_on k words.now longs.now floats.now }
 {
     let w = FIRST_WORD + k * VOICE_WORDS;
-    let we = w + VOICE_WORDS;
     let l = 1 + k * 14;
-    let le = l + 14;
     let f = k * 4;
-    let fe = f + 4;
-    voice_rows::load_voice(&words[w..we], &longs[l..le], &floats[f..fe])
+    voice_rows::load_voice(
+        &words[w..w + VOICE_WORDS],
+        &longs[l..l + 14],
+        &floats[f..f + 4],
+    )
 }
 
 // v as voice k.
@@ -81,12 +81,11 @@ fn store_unready(
     contexts: &mut [u16],
     history: &mut [f32],
 )
-    requires fact_1 { PositionInside k words.old longs.old floats.old }
-    requires fact_2 { SoundInside k contexts.old history.old }
+    requires position { PositionInside k words.old longs.old floats.old }
+    requires sound { SoundInside k contexts.old history.old }
     ensures { state_of words.new longs.new floats.new contexts.new history.new ≡ unready k b (state_of words.old longs.old floats.old contexts.old history.old) }
 {
-    let v = b.voice;
-    store_voice_at(k, v, words, longs, floats);
+    store_voice_at(k, b.voice, words, longs, floats);
     if b.reset {
         reset_sound(k, contexts, history);
     }
@@ -94,24 +93,27 @@ fn store_unready(
 
 // The resources of some channels, of n that stand behind the rows of n voices.
 fn take_over_at(ids: [u32; 6], channels: usize, n: usize, floats: &mut [f32])
-    requires fact_1 { Ids n ids }
-    requires fact_2 { (channels ≤ 6) × (n * 4 + n * 48 ≤ length floats.old) }
+    requires ids { Ids n ids }
+    requires room { (channels ≤ 6) × (n * 4 + n * 48 ≤ length floats.old) }
     ensures { floats.new ≡ put floats.old (n * 4) (taken_over ids channels (part (n * 48) (n * 4) floats.old)) }
 {
-    let a = n * 4;
-    let e = a + n * 48;
-    voice_sends::take_over(&mut floats[a..e], ids, channels, n);
+    let at = n * 4;
+    voice_sends::take_over(&mut floats[at..at + n * 48], ids, channels, n);
 }
 
 // The resources of a voice, where it is fresh.
 fn take_fresh(p: Params, v: Voice, floats: &mut [f32])
-    requires fact_1 { Ids p.voices v.channel_ids }
-    requires fact_2 { (v.channels ≤ 6) × (length floats.old ≡ floats_in p) }
+    requires ids { Ids p.voices v.channel_ids }
+    requires room { (v.channels ≤ 6) × (length floats.old ≡ floats_in p) }
     ensures { floats.new ≡ fresh_floats v.fresh p v floats.old }
 {
     if v.fresh {
-        let ids = v.channel_ids;
-        take_over_at(ids, v.channels as usize, p.voices as usize, floats);
+        take_over_at(
+            v.channel_ids,
+            v.channels as usize,
+            p.voices as usize,
+            floats,
+        );
     }
 }
 
@@ -125,14 +127,13 @@ fn store_prepared(
     contexts: &mut [u16],
     history: &mut [f32],
 )
-    requires fact_1 { PositionInside k words.old longs.old floats.old }
-    requires fact_2 { SoundInside k contexts.old history.old }
+    requires position { PositionInside k words.old longs.old floats.old }
+    requires sound { SoundInside k contexts.old history.old }
     ensures { state_of words.new longs.new floats.new contexts.new history.new ≡ stored_by b.ready k b (state_of words.old longs.old floats.old contexts.old history.old) }
 {
-    if b.ready {
-        return;
+    if !b.ready {
+        store_unready(k, b, words, longs, floats, contexts, history);
     }
-    store_unready(k, b, words, longs, floats, contexts, history);
 }
 
 // What the turn of voice k does before it fetches. It has no sample memory, and the rows of the sound only to reset them.
@@ -149,15 +150,15 @@ pub fn begin_voice(
     ensures { begun_of (state_of words.new longs.new floats.new contexts.new history.new) result ≡ begun p k (state_of words.old longs.old floats.old contexts.old history.old) }
 {
     let v = load_voice_at(k, words, longs, floats);
-    if turn::takes_part(v) {
-        take_fresh(p, v, floats);
-        let b = turn::begin(v);
-        store_prepared(k, b, words, longs, floats, contexts, history);
-        return b;
+    if !turn::takes_part(v) {
+        return Prepared {
+            voice: v,
+            ready: false,
+            reset: false,
+        };
     }
-    Prepared {
-        voice: v,
-        ready: false,
-        reset: false,
-    }
+    take_fresh(p, v, floats);
+    let b = turn::begin(v);
+    store_prepared(k, b, words, longs, floats, contexts, history);
+    b
 }

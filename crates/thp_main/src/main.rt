@@ -4,9 +4,9 @@
 // bytes.
 #![tactic(auto)]
 
-ghost use Rattle.std.specs.Prelude.{◌≤◌, length, IfOk};
+ghost use Rattle.std.specs.Prelude.{◌≤◌, ◌<◌, length, IfOk, IfSome};
 
-use adpcm::{AdpcmAnswer, AdpcmContext, Sample};
+use adpcm::{AdpcmContext, Sample};
 use std::io;
 
 const HEADER: usize = 36;
@@ -26,13 +26,8 @@ fn print_sample(rt: &impl Print, x: f32) -> io::Result<()> {
 
 // The first n of s, or all of it.
 fn print_samples(rt: &impl Print, s: &[f32], n: usize) -> io::Result<()> {
-    let mut k = 0;
-    while k < s.len() {
-        if n <= k {
-            return Ok(());
-        }
-        print_sample(rt, s[k])?;
-        k += 1;
+    for x in &s[..n.min(s.len())] {
+        print_sample(rt, *x)?;
     }
     Ok(())
 }
@@ -40,45 +35,32 @@ fn print_samples(rt: &impl Print, s: &[f32], n: usize) -> io::Result<()> {
 // Decodes a clip's data by its coefficients, and prints the samples.
 fn decode(rt: &impl Print, coefficients: &[u8], clip: &[u8], out: &mut [f32]) -> io::Result<()> {
     let pairs = adpcm::coefficients(coefficients);
-    let ctx = AdpcmContext {
-        pred_scale: 0,
-        history0: 0,
-        history1: 0,
-    };
+    let ctx = AdpcmContext::default();
     let count = out.len();
-    let answer = adpcm::decode_adpcm_checked(clip, Sample(0), count, &pairs, ctx, out);
-    match answer {
-        AdpcmAnswer::Done(d) => print_samples(rt, out, d.done),
-        AdpcmAnswer::FarStart => Ok(()),
-        AdpcmAnswer::ShortOutput => Ok(()),
+    match adpcm::decode_adpcm_checked(clip, Sample(0), count, &pairs, ctx, out) {
+        Ok(d) => print_samples(rt, out, d.done),
+        Err(_) => Ok(()),
     }
 }
 
-// The clip at the front of c: the number of bytes read, or 0 where it is not whole. An error is that of a write.
-fn clip(rt: &impl Print, c: &[u8], out: &mut [f32]) -> io::Result<usize>
-    ensures { IfOk result (λ n. n ≤ length c.now) }
+// The clip at the front of c: the number of bytes read, or nothing where it is not whole. An error is that of a write.
+fn clip(rt: &impl Print, c: &[u8], out: &mut [f32]) -> io::Result<Option<usize>>
+    ensures { IfOk result (λ o. IfSome o (λ n. (0 < n) × (n ≤ length c.now))) }
 {
     let size = fields::u32_at(c, 0) as usize;
-    if c.len() < HEADER {
-        return Ok(0);
-    }
-    if c.len() - HEADER < size {
-        return Ok(0);
-    }
     let end = HEADER + size;
-    decode(rt, &c[4..HEADER], &c[HEADER..end], out)?;
-    Ok(end)
+    let Some(data) = c.get(HEADER..end) else {
+        return Ok(None);
+    };
+    decode(rt, &c[4..HEADER], data, out)?;
+    Ok(Some(end))
 }
 
 // Every clip in turn, up to the end of the input or the first that is not whole.
 fn clips(rt: &impl Print, d: &[u8], out: &mut [f32]) -> io::Result<()> {
-    let mut at = 0;
-    while at < d.len() {
-        let read = clip(rt, &d[at..], out)?;
-        if read == 0 {
-            return Ok(());
-        }
-        at += read;
+    let mut left = d;
+    while let Some(read) = clip(rt, left, out)? {
+        left = &left[read..];
     }
     Ok(())
 }

@@ -75,9 +75,9 @@ module _ (s : ℕ) (c d : ℤ) where
           fits1 = p.fits0;
         }
 
-      -- all samples are tried, and the sum is below the limit
-      pub try_end : (limit : ℕ) → length ts ≤ i → sum < limit → sum ≡ min limit (sum_from ts h0 h1)
-      try_end limit h l =
+      -- all samples are tried
+      pub try_end : (limit : ℕ) → length ts ≤ i → min sum limit ≡ min limit (sum_from ts h0 h1)
+      try_end limit h =
           let e : i ≡ length ts = omega (arith, p.count) in
           let z : sum_from (drop i ts) a b ≡ 0 =
           ap (λ (n : ℕ). sum_from (drop n ts) a b) e ∙ ap (λ (l : List ℤ). sum_from l a b) (drop-length ts) ∙ sum_none a b in

@@ -18,7 +18,8 @@ fn square(difference: u32) -> u64
     requires { difference ≤ 65535 }
     ensures { (result ≡ difference * difference) × (result ≤ most_square) }
 {
-    (difference as u64) * (difference as u64)
+    let d = u64::from(difference);
+    d * d
 }
 
 // The sum of squared differences of a frame's samples with the scale s and the pair c, d, after the samples h0 and h1; or limit where it
@@ -29,22 +30,17 @@ fn try_pair(samples: &[i16], s: u16, c: i16, d: i16, h0: i16, h1: i16, limit: u6
 {
     let mut a = h0;
     let mut b = h1;
-    let mut sum = 0u64;
-    let mut i = 0usize;
-    while i < samples.len() {
+    let mut sum = 0;
+    for x in samples {
         if limit <= sum {
             return limit;
         }
-        let next = choose_nibble(samples[i], s, c, d, a, b);
+        let next = choose_nibble(*x, s, c, d, a, b);
         sum += square(next.difference);
         b = a;
         a = next.sample;
-        i += 1;
     }
-    if limit <= sum {
-        return limit;
-    }
-    sum
+    sum.min(limit)
 }
 
 // The same with the header b.
@@ -52,10 +48,8 @@ fn try_header(samples: &[i16], b: u8, coefficients: &[i16; 16], h0: i16, h1: i16
     requires { length samples.now ≤ frame_samples }
     ensures { (result ≡ min limit (error_of coefficients.now samples.now h0 h1 b)) × (result ≤ most_error) }
 {
-    let p = (b / 16 % 8 * 2) as usize;
-    let c = coefficients[p];
-    let d = coefficients[p + 1];
-    try_pair(samples, (b % 16) as u16, c, d, h0, h1, limit)
+    let (c, d) = adpcm::pair(coefficients, u16::from(b));
+    try_pair(samples, u16::from(b % 16), c, d, h0, h1, limit)
 }
 
 // A header and its sum.
@@ -70,9 +64,10 @@ fn better(kept: Kept, b: u8, error: u64) -> Kept
     ensures { result ≡ better_of kept b error }
 {
     if error < kept.error {
-        return Kept { header: b, error };
+        Kept { header: b, error }
+    } else {
+        kept
     }
-    kept
 }
 
 // The header that is kept for a frame of up to 14 samples, after the samples h0 and h1, and its sum. The sum of the header `seed`,
@@ -87,12 +82,9 @@ pub fn keep_header(samples: &[i16], coefficients: &[i16; 16], h0: i16, h1: i16, 
         header: 0,
         error: above,
     };
-    let mut b = 0u8;
-    while b < HEADERS {
-        let limit = kept.error;
-        let error = try_header(samples, b, coefficients, h0, h1, limit);
+    for b in 0..HEADERS {
+        let error = try_header(samples, b, coefficients, h0, h1, kept.error);
         kept = better(kept, b, error);
-        b += 1;
     }
     kept
 }

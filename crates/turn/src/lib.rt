@@ -2,7 +2,7 @@
 // the plan of the turn's fetch says what is read, and the crate `playing` makes the sound of it.
 #![tactic(auto)]
 
-ghost use Rattle.std.specs.Prelude.{◌≡◌, ℕ, ◌<◌, ◌≤◌, max, T, List};
+ghost use Rattle.std.specs.Prelude.{◌≡◌, ℕ, ◌<◌, ◌≤◌, T, List};
 ghost use Rattle.floats.specs.Unit.{in_unit};
 ghost use Rattle.resample.specs.Defs.{next_of};
 ghost use Rattle.plan.specs.Source.{over};
@@ -22,7 +22,8 @@ pub struct Render {
     pub buffers_v2: bool,
 }
 
-// A turn: the voice after it, and what its sound is made from. `fraction` is the voice's before the turn; the volume ramps from `from` to `to`.
+// A turn: the voice after it, and what its sound is made from. `fraction` is the voice's before the turn; the volume ramps from `from` to
+// `to`.
 #[derive(Clone, Copy)]
 pub struct Turn {
     pub voice: Voice,
@@ -38,10 +39,7 @@ pub struct Turn {
 pub fn takes_part(v: Voice) -> bool
     ensures { result ≡ takes_part v }
 {
-    if v.in_use {
-        return v.queued != 0;
-    }
-    false
+    v.in_use && v.queued != 0
 }
 
 // A fresh voice's volume does not ramp, and it is fresh no longer.
@@ -49,12 +47,14 @@ fn freshen(v: Voice) -> Voice
     ensures { result ≡ freshened v }
 {
     if v.fresh {
-        let mut w = v;
-        w.fresh = false;
-        w.previous_volume = v.volume;
-        return w;
+        Voice {
+            fresh: false,
+            previous_volume: v.volume,
+            ..v
+        }
+    } else {
+        v
     }
-    v
 }
 
 // What a turn does before it fetches.
@@ -73,29 +73,24 @@ fn skips_conversion(decoding: u32) -> bool
     decoding / 2 % 2 == 1
 }
 
-// Rust's `rate.max(1)`.
-fn at_least_one(rate: u32) -> u32
-    ensures { result ≡ max rate 1 }
-{
-    if rate < 1 { 1 } else { rate }
-}
-
 // The voice's rate over the renderer's, times its pitch.
 fn speed(v: Voice, rate: u32) -> f32
     ensures { result ≡ speed_of rate v }
 {
     let own = std::num::nearest_u32_to_f32(v.sample_rate);
-    own / std::num::nearest_u32_to_f32(at_least_one(rate)) * v.pitch
+    own / std::num::nearest_u32_to_f32(rate.max(1)) * v.pitch
 }
 
 // Samples taken for each that is played.
 pub fn ratio(v: Voice, rate: u32) -> f32
     ensures { result ≡ ratio_of rate v }
 {
-    if skips_conversion(v.decoding) {
-        return floats::clamp_ratio(1.0);
-    }
-    floats::clamp_ratio(speed(v, rate))
+    let asked = if skips_conversion(v.decoding) {
+        1.0
+    } else {
+        speed(v, rate)
+    };
+    floats::clamp_ratio(asked)
 }
 
 // What a fetch takes from the voice and from the render.
@@ -124,19 +119,21 @@ fn previous_of(v: Voice) -> f32
     ensures { result ≡ previous_of v }
 {
     if voice::has_destination(v.mix_id, v.splitter_id) {
-        return v.volume;
+        v.volume
+    } else {
+        v.previous_volume
     }
-    v.previous_volume
 }
 
 // The voice after its fetch.
 fn finish(v: Voice, previous: f32, q: Queue, fraction: f32) -> Voice
     ensures { result ≡ with v.fresh previous q fraction v }
 {
-    let mut w = voice::with_queue(v, q);
-    w.previous_volume = previous;
-    w.fraction = fraction;
-    w
+    Voice {
+        previous_volume: previous,
+        fraction,
+        ..voice::with_queue(v, q)
+    }
 }
 
 // The samples that the turn of a voice takes.
@@ -157,11 +154,9 @@ pub fn plan_turn(v: Voice, r: Render, ranges: &[u64]) -> Turn
     let ratio = ratio(v, r.sample_rate);
     let needed = resample::needed(v.fraction, ratio, r.sample_count) as u32;
     let plan = plan::plan_fetch(voice::queue_of(v), source_of(v, r), ranges, needed);
-    let q = plan.queue;
     let fraction = next_fraction(v.fraction, ratio, r.sample_count);
-    let voice = finish(v, previous_of(v), q, fraction);
     Turn {
-        voice,
+        voice: finish(v, previous_of(v), plan.queue, fraction),
         plan,
         ratio,
         fraction: v.fraction,

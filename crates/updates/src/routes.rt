@@ -59,8 +59,8 @@ fn update_sinks(p: Params, d: &[u8], words: &mut [u32], floats: &mut [f32])
 
 // The three, from where the splitters begin.
 pub fn update_desk(p: Params, s: Sections, input: &[u8], words: &mut [u32], floats: &mut [f32])
-    requires fact_1 { Near s }
-    requires fact_2 { DeskUpdatable p (desk words.old floats.old) }
+    requires near { Near s }
+    requires updatable { DeskUpdatable p (desk words.old floats.old) }
     ensures { desk words.new floats.new ≡ after_desk p s input.now (desk words.old floats.old) }
 {
     let size = update_splitters(p, fields::rest(input, s.splitters_at), words, floats);

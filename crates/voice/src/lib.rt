@@ -34,7 +34,7 @@ pub const ADPCM: u32 = 6;
 
 // The position side of the Rust's `Voice`. Its ADPCM context and history, which depend on sound, stand apart (`Sound`).
 // An i32 of the Rust is held as its 32 bits; format and decoding, 8 and 16 bits there, are whole words.
-#[derive(Clone, Copy)]
+#[derive(Clone, Copy, Default)]
 pub struct Voice {
     pub in_use: bool,
     pub fresh: bool,
@@ -67,10 +67,7 @@ pub struct Voice {
 pub fn has_destination(mix_id: u32, splitter_id: u32) -> bool
     ensures { result ≡ has_destination mix_id splitter_id }
 {
-    if mix_id != UNUSED_MIX {
-        return true;
-    }
-    splitter_id != UNUSED_SPLITTER
+    mix_id != UNUSED_MIX || splitter_id != UNUSED_SPLITTER
 }
 
 // The part of a voice that its queue of wave buffers is.
@@ -94,44 +91,9 @@ pub fn queue_of(v: Voice) -> Queue
 pub fn with_queue(v: Voice, q: Queue) -> Voice
     ensures { result ≡ with_queue q v }
 {
-    let mut w = v;
-    let buffers = q.buffers;
-    let valid = q.valid;
-    w.buffers = buffers;
-    w.valid = valid;
-    w.index = q.index;
-    w.consumed = q.consumed;
-    w.offset = q.offset;
-    w.played = q.played;
-    w.loops = q.loops;
-    w
-}
-
-// The voice with the queue of a stop: stopped, at fraction 0.
-fn with_stopped(v: Voice, q: Queue) -> Voice
-    ensures { result ≡ with Stopped v.flush q (fin false 0 (pos 0)) v }
-{
-    let ids = v.channel_ids;
     let buffers = q.buffers;
     let valid = q.valid;
     Voice {
-        in_use: v.in_use,
-        fresh: v.fresh,
-        play: Play::Stopped,
-        format: v.format,
-        sample_rate: v.sample_rate,
-        channels: v.channels,
-        pitch: v.pitch,
-        volume: v.volume,
-        previous_volume: v.previous_volume,
-        queued: v.queued,
-        base_index: v.base_index,
-        flush: v.flush,
-        decoding: v.decoding,
-        mix_id: v.mix_id,
-        splitter_id: v.splitter_id,
-        channel_ids: ids,
-        data_source: v.data_source,
         buffers,
         valid,
         index: q.index,
@@ -139,6 +101,17 @@ fn with_stopped(v: Voice, q: Queue) -> Voice
         offset: q.offset,
         played: q.played,
         loops: q.loops,
+        ..v
+    }
+}
+
+// The voice with the queue of a stop: stopped, at fraction 0.
+fn with_stopped(v: Voice, q: Queue) -> Voice
+    ensures { result ≡ with Stopped v.flush q (fin false 0 (pos 0)) v }
+{
+    Voice {
+        play: Play::Stopped,
         fraction: 0.0,
+        ..with_queue(v, q)
     }
 }

@@ -2,9 +2,10 @@
 ghost use Rattle.std.specs.Prelude.{◌≡◌};
 ghost use Rattle.voice.specs.Play.{set_play};
 
-#[derive(Clone, Copy)]
+#[derive(Clone, Copy, Debug, Default, PartialEq, Eq)]
 pub enum Play {
     Started,
+    #[default]
     Stopped,
     Stopping,
     Paused,
@@ -14,16 +15,12 @@ pub enum Play {
 pub fn set_play(play: Play, requested: u8) -> Play
     ensures { result ≡ set_play play requested }
 {
-    if requested == 0 {
-        return Play::Started;
-    }
-    if requested == 1 {
-        return match play {
+    match requested {
+        0 => Play::Started,
+        1 => match play {
             Play::Stopped => Play::Stopped,
-            Play::Started => Play::Stopping,
-            Play::Stopping => Play::Stopping,
-            Play::Paused => Play::Stopping,
-        };
+            _ => Play::Stopping,
+        },
+        _ => Play::Paused,
     }
-    Play::Paused
 }

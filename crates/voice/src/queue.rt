@@ -32,7 +32,7 @@ pub struct Spot {
 pub fn next_slot(slot: u32) -> u32
     ensures { result ≡ next_slot slot }
 {
-    std::num::wrapping_add_u32(slot, 1) % 4
+    slot.wrapping_add(1) % 4
 }
 
 // The spot of a queue.
@@ -72,11 +72,10 @@ pub fn end_buffer(mut p: Spot, last: bool) -> Spot
     ensures { (b : List WaveBuffer) → (slice_index_or b p.index no_buffer).end_of_stream ≡ last
         → queue_at b result ≡ end_buffer (queue_at b p) }
 {
-    let at = p.index as usize;
-    p.valid[at] = false;
+    p.valid[p.index as usize] = false;
     p.index = next_slot(p.index);
     p.loops = 0;
-    p.consumed = std::num::wrapping_add_u32(p.consumed, 1);
+    p.consumed = p.consumed.wrapping_add(1);
     if last {
         p.played = 0;
     }

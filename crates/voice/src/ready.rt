@@ -27,33 +27,25 @@ fn flush_slot(mut q: Queue, slot: u32) -> Queue
     ensures { result ≡ flush_slot q slot }
 {
     let at = slot as usize;
-    let mut b = q.buffers[at];
-    b.pending = false;
-    q.buffers[at] = b;
+    q.buffers[at].pending = false;
     q.valid[at] = false;
     q.index = next_slot(q.index);
-    q.consumed = std::num::wrapping_add_u32(q.consumed, 1);
+    q.consumed = q.consumed.wrapping_add(1);
     q
 }
 
 // The flush walk turn by turn, from the base slot on.
-fn walk(q: Queue, base: u32, turns: u32) -> Flushed
+fn walk(mut q: Queue, base: u32, turns: u32) -> Flushed
     requires { base < 4 }
     ensures queue_value { result.queue ≡ flushed turns base q }
     ensures turns_value { result.turns ≡ turns }
 {
-    let mut w = q;
     let mut slot = base;
-    let mut turn: u32 = 0;
-    while turn < turns {
-        w = flush_slot(w, slot);
+    for _turn in 0..turns {
+        q = flush_slot(q, slot);
         slot = next_slot(slot);
-        turn += 1;
     }
-    Flushed {
-        queue: w,
-        turns: turn,
-    }
+    Flushed { queue: q, turns }
 }
 
 // The flush walk of as many turns as the flush count. After four turns every slot is empty: the rest of the advance is worked out.
@@ -65,15 +57,11 @@ pub fn flush(q: Queue, base: u32, count: u32) -> Flushed
     if count < 5 {
         return walk(q, base, count);
     }
-    let f = walk(q, base, 4);
-    let mut queue = f.queue;
+    let Flushed { mut queue, turns } = walk(q, base, 4);
     let rest = count - 4;
-    queue.index = std::num::wrapping_add_u32(queue.index, rest) % 4;
-    queue.consumed = std::num::wrapping_add_u32(queue.consumed, rest);
-    Flushed {
-        queue,
-        turns: f.turns,
-    }
+    queue.index = queue.index.wrapping_add(rest) % 4;
+    queue.consumed = queue.consumed.wrapping_add(rest);
+    Flushed { queue, turns }
 }
 
 // A slot's pending buffer becomes valid.
@@ -81,42 +69,27 @@ fn promote_slot(mut q: Queue, k: usize) -> Queue
     requires { k < 4 }
     ensures { result ≡ promote_slot q k }
 {
-    let mut b = q.buffers[k];
-    if b.pending {
-        b.pending = false;
-        q.buffers[k] = b;
+    if q.buffers[k].pending {
+        q.buffers[k].pending = false;
         q.valid[k] = true;
     }
     q
 }
 
 // Pending buffers become valid.
-fn promote(q: Queue) -> Queue
+fn promote(mut q: Queue) -> Queue
     ensures { result ≡ promoted q }
 {
-    let mut w = q;
-    let mut k: usize = 0;
-    while k < 4 {
-        w = promote_slot(w, k);
-        k += 1;
+    for k in 0..4 {
+        q = promote_slot(q, k);
     }
-    w
+    q
 }
 
 fn any_valid(q: Queue) -> bool
     ensures { result ≡ any_of q.valid }
 {
-    let v = q.valid;
-    if v[0] {
-        return true;
-    }
-    if v[1] {
-        return true;
-    }
-    if v[2] {
-        return true;
-    }
-    v[3]
+    q.valid.iter().any(|v| *v)
 }
 
 // A slot's buffer is dropped; if it was valid, it counts as consumed.
@@ -125,33 +98,30 @@ fn stop_slot(mut q: Queue, k: usize) -> Queue
     requires index_bound { q.index < 4 }
     ensures { result ≡ stop_slot q k }
 {
-    let mut b = q.buffers[k];
-    b.pending = false;
-    q.buffers[k] = b;
     let was = q.valid[k];
+    q.buffers[k].pending = false;
     q.valid[k] = false;
     if was {
         q.index = next_slot(q.index);
-        q.consumed = std::num::wrapping_add_u32(q.consumed, 1);
+        q.consumed = q.consumed.wrapping_add(1);
     }
     q
 }
 
 // Every buffer is dropped; each that was valid counts as consumed. Nothing is played of the next.
-fn stop(q: Queue) -> Queue
+fn stop(mut q: Queue) -> Queue
     requires { q.index < 4 }
     ensures { result ≡ stopped q }
 {
-    let mut w = q;
-    let mut k: usize = 0;
-    while k < 4 {
-        w = stop_slot(w, k);
-        k += 1;
+    for k in 0..4 {
+        q = stop_slot(q, k);
     }
-    w.offset = 0;
-    w.played = 0;
-    w.loops = 0;
-    w
+    Queue {
+        offset: 0,
+        played: 0,
+        loops: 0,
+        ..q
+    }
 }
 
 pub fn prepare(v: Voice) -> Prepared
@@ -159,46 +129,26 @@ pub fn prepare(v: Voice) -> Prepared
     requires index_bound { v.index < 4 }
     ensures { result ≡ prepare_of v }
 {
-    let base = v.base_index;
-    let count = v.flush;
-    let f = flush(crate::queue_of(v), base, count);
-    let q = f.queue;
-    let mut w = v;
-    w.flush = 0;
-    let play = v.play;
-    match play {
+    let queue = flush(crate::queue_of(v), v.base_index, v.flush).queue;
+    let flushed = Voice { flush: 0, ..v };
+    match v.play {
         Play::Started => {
-            let p = promote(q);
-            let voice = crate::with_queue(w, p);
+            let queue = promote(queue);
             Prepared {
-                voice,
-                ready: any_valid(p),
+                voice: crate::with_queue(flushed, queue),
+                ready: any_valid(queue),
                 reset: false,
             }
         }
-        Play::Stopping => {
-            let voice = crate::with_stopped(w, stop(q));
-            Prepared {
-                voice,
-                ready: false,
-                reset: true,
-            }
-        }
-        Play::Stopped => {
-            let voice = crate::with_queue(w, q);
-            Prepared {
-                voice,
-                ready: false,
-                reset: false,
-            }
-        }
-        Play::Paused => {
-            let voice = crate::with_queue(w, q);
-            Prepared {
-                voice,
-                ready: false,
-                reset: false,
-            }
-        }
+        Play::Stopping => Prepared {
+            voice: crate::with_stopped(flushed, stop(queue)),
+            ready: false,
+            reset: true,
+        },
+        Play::Stopped | Play::Paused => Prepared {
+            voice: crate::with_queue(flushed, queue),
+            ready: false,
+            reset: false,
+        },
     }
 }

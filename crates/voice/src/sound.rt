@@ -20,15 +20,10 @@ pub struct Sound {
 pub fn silent() -> Sound
     ensures { result ≡ silent_sound }
 {
-    let adpcm = AdpcmContext {
-        pred_scale: 0,
-        history0: 0,
-        history1: 0,
-    };
-    let history = History {
-        samples: [0.0f32; 18],
-    };
-    Sound { adpcm, history }
+    Sound {
+        adpcm: AdpcmContext::default(),
+        history: History { samples: [0.0; 18] },
+    }
 }
 
 // What a voice keeps of its sound: nothing where it is renewed, that is new or stopped.

@@ -2,10 +2,11 @@
 ghost use Rattle.std.specs.Prelude.{◌≡◌};
 ghost use Rattle.voice.specs.Wave.{parse_of, both_fit, offsets_valid};
 
+use crate::{ADPCM, PCM_FLOAT, PCM_INT16};
 use adpcm::Sample;
 
 // `loop_count` is the 32 bits of the Rust's i32.
-#[derive(Clone, Copy)]
+#[derive(Clone, Copy, Default)]
 pub struct WaveBuffer {
     pub addr: u64,
     pub size: u64,
@@ -25,27 +26,17 @@ impl WaveBuffer {
     pub fn parse(w: &[u8]) -> WaveBuffer
         ensures { result ≡ parse_of w.now }
     {
-        let addr = fields::u64_at(w, 0x00);
-        let size = fields::u64_at(w, 0x08);
-        let start = fields::u32_at(w, 0x10);
-        let end = fields::u32_at(w, 0x14);
-        let looping = fields::flag_at(w, 0x18);
-        let end_of_stream = fields::flag_at(w, 0x19);
-        let loop_count = fields::u32_at(w, 0x1c);
-        let context = fields::u64_at(w, 0x20);
-        let loop_start = fields::u32_at(w, 0x30);
-        let loop_end = fields::u32_at(w, 0x34);
         WaveBuffer {
-            addr,
-            size,
-            start,
-            end,
-            looping,
-            end_of_stream,
-            loop_count,
-            context,
-            loop_start,
-            loop_end,
+            addr: fields::u64_at(w, 0x00),
+            size: fields::u64_at(w, 0x08),
+            start: fields::u32_at(w, 0x10),
+            end: fields::u32_at(w, 0x14),
+            looping: fields::flag_at(w, 0x18),
+            end_of_stream: fields::flag_at(w, 0x19),
+            loop_count: fields::u32_at(w, 0x1c),
+            context: fields::u64_at(w, 0x20),
+            loop_start: fields::u32_at(w, 0x30),
+            loop_end: fields::u32_at(w, 0x34),
             pending: true,
         }
     }
@@ -55,23 +46,21 @@ impl WaveBuffer {
         ensures { result ≡ offsets_valid self format }
     {
         let size = self.size;
-        if format == crate::PCM_INT16 {
-            return both_fit(self.start as u64 * 2, self.end as u64 * 2, size);
+        match format {
+            PCM_INT16 => both_fit(self.start as u64 * 2, self.end as u64 * 2, size),
+            PCM_FLOAT => both_fit(self.start as u64 * 4, self.end as u64 * 4, size),
+            ADPCM => {
+                let start = adpcm::adpcm_size(Sample(self.start as u64));
+                let end = adpcm::adpcm_size(Sample(self.end as u64));
+                both_fit(start.0, end.0, size)
+            }
+            _ => true,
         }
-        if format == crate::PCM_FLOAT {
-            return both_fit(self.start as u64 * 4, self.end as u64 * 4, size);
-        }
-        if format == crate::ADPCM {
-            let start = adpcm::adpcm_size(Sample(self.start as u64));
-            let end = adpcm::adpcm_size(Sample(self.end as u64));
-            return both_fit(start.0, end.0, size);
-        }
-        true
     }
 }
 
 fn both_fit(start: u64, end: u64, size: u64) -> bool
     ensures { result ≡ both_fit start end size }
 {
-    if start <= size { end <= size } else { false }
+    start <= size && end <= size
 }

@@ -1,5 +1,5 @@
 // A fetch: the position's part by a voice's rows, and the sound of a channel.
-use crate::{VOICE_FLOATS, VOICE_LONGS, VOICE_WORDS, VoiceContext};
+use crate::{VoiceContext, load};
 use plan::Source;
 use voice::Voice;
 
@@ -14,44 +14,24 @@ fn source_of(v: Voice, buffers_v2: bool) -> Source {
     }
 }
 
-// A voice after a fetch's plan, and the rounds; 255 where a fetch requires more of it.
+// A voice after a fetch's plan, and the rounds; none where a fetch requires more of it.
 #[derive(Clone, Copy)]
 struct Moved {
     voice: Voice,
-    rounds: u32,
+    rounds: Option<u32>,
 }
 
 fn plan_voice(v: Voice, s: Source, ranges: &[u64], count: u32) -> Moved {
-    if count > 65536 {
+    if count > 65536 || v.index > 3 || s.channels == 0 || s.channels > 6 {
         return Moved {
             voice: v,
-            rounds: 255,
-        };
-    }
-    if v.index > 3 {
-        return Moved {
-            voice: v,
-            rounds: 255,
-        };
-    }
-    if s.channels == 0 {
-        return Moved {
-            voice: v,
-            rounds: 255,
-        };
-    }
-    if s.channels > 6 {
-        return Moved {
-            voice: v,
-            rounds: 255,
+            rounds: None,
         };
     }
     let p = plan::plan_fetch(voice::queue_of(v), s, ranges, count);
-    let q = p.queue;
-    let voice = voice::with_queue(v, q);
     Moved {
-        voice,
-        rounds: p.rounds,
+        voice: voice::with_queue(v, p.queue),
+        rounds: Some(p.rounds),
     }
 }
 
@@ -66,21 +46,12 @@ pub extern "C" fn probe_plan(
     count: u32,
     buffers_v2: u32,
 ) -> u32 {
-    if words.len() < VOICE_WORDS {
+    let Some(v) = load(words, longs, floats) else {
         return 255;
-    }
-    if longs.len() < VOICE_LONGS {
-        return 255;
-    }
-    if floats.len() < VOICE_FLOATS {
-        return 255;
-    }
-    let v = voice_rows::load_voice(words, longs, floats);
-    let ranges = [base, 0, size];
-    let m = plan_voice(v, source_of(v, buffers_v2 != 0), &ranges, count);
-    let w = m.voice;
-    voice_rows::store_voice(w, words, 0, longs, 0, floats, 0);
-    m.rounds
+    };
+    let m = plan_voice(v, source_of(v, buffers_v2 != 0), &[base, 0, size], count);
+    voice_rows::store_voice(m.voice, words, 0, longs, 0, floats, 0);
+    m.rounds.unwrap_or(255)
 }
 
 // The sound of channel c of a voice's fetch, and the ADPCM context that is left.
@@ -97,30 +68,18 @@ pub extern "C" fn probe_fetch_row(
     c: u32,
     out: &mut [f32],
 ) -> VoiceContext {
-    if words.len() < VOICE_WORDS {
+    let Some(v) = load(words, longs, floats) else {
+        return nothing();
+    };
+    if contexts.len() < 3 || history.len() < 18 {
         return nothing();
     }
-    if longs.len() < VOICE_LONGS {
-        return nothing();
-    }
-    if floats.len() < VOICE_FLOATS {
-        return nothing();
-    }
-    if contexts.len() < 3 {
-        return nothing();
-    }
-    if history.len() < 18 {
-        return nothing();
-    }
-    let v = voice_rows::load_voice(words, longs, floats);
     let sound = sound_rows::load_sound(contexts, history);
     let s = source_of(v, buffers_v2 != 0);
     let ranges = [base, 0, memory.len() as u64];
-    let ctx = sound.adpcm;
-    let kept = sound.history;
-    let samples = kept.samples;
-    let first = three_of(samples, c);
-    let x = fetch_once::fetch_row(voice::queue_of(v), s, &ranges, memory, ctx, first, c, out);
+    let first = three_of(sound.history.samples, c);
+    let q = voice::queue_of(v);
+    let x = fetch_once::fetch_row(q, s, &ranges, memory, sound.adpcm, first, c, out);
     VoiceContext {
         pred_scale: x.pred_scale,
         history0: x.history0,
@@ -139,7 +98,7 @@ fn nothing() -> VoiceContext {
 // The history of channel c; zeros for one that there is none of.
 fn three_of(h: [f32; 18], c: u32) -> [f32; 3] {
     if c > 5 {
-        return [0.0f32; 3];
+        return [0.0; 3];
     }
     let at = (c * 3) as usize;
     [h[at], h[at + 1], h[at + 2]]

@@ -4,7 +4,9 @@
 
 mod fetches;
 
-use voice::WaveBuffer;
+ghost use Rattle.std.specs.Prelude.{◌≤◌, length, IfSome};
+
+use voice::{Prepared, Voice, WaveBuffer};
 
 // The lengths of a voice's rows.
 pub const VOICE_WORDS: usize = 58;
@@ -21,43 +23,34 @@ pub struct VoiceContext {
     pub history1: i16,
 }
 
-// The position's part of a prepare: whether the voice is ready, 2 for no voice, or 3 where the sound is to be reset.
-fn prepare_rows(words: &mut [u32], longs: &mut [u64], floats: &mut [f32]) -> u32 {
-    if words.len() < VOICE_WORDS {
-        return 2;
+// The voice of these rows; none where they are shorter than a voice's.
+pub(crate) fn load(words: &[u32], longs: &[u64], floats: &[f32]) -> Option<Voice>
+    ensures { IfSome result (λ v. (58 ≤ length words.now) × (14 ≤ length longs.now) × (4 ≤ length floats.now)) }
+{
+    if words.len() < VOICE_WORDS || longs.len() < VOICE_LONGS || floats.len() < VOICE_FLOATS {
+        return None;
     }
-    if longs.len() < VOICE_LONGS {
-        return 2;
-    }
-    if floats.len() < VOICE_FLOATS {
-        return 2;
-    }
-    let v = voice_rows::load_voice(words, longs, floats);
-    if v.base_index > 3 {
-        return 2;
-    }
-    if v.index > 3 {
-        return 2;
+    Some(voice_rows::load_voice(words, longs, floats))
+}
+
+// The position's part of a prepare, the voice stored; none where the rows are no voice's.
+fn prepare_rows(words: &mut [u32], longs: &mut [u64], floats: &mut [f32]) -> Option<Prepared> {
+    let v = load(words, longs, floats)?;
+    if v.base_index > 3 || v.index > 3 {
+        return None;
     }
     let p = voice::prepare(v);
-    let w = p.voice;
-    voice_rows::store_voice(w, words, 0, longs, 0, floats, 0);
-    if p.reset {
-        return 3;
-    }
-    if p.ready { 1 } else { 0 }
+    voice_rows::store_voice(p.voice, words, 0, longs, 0, floats, 0);
+    Some(p)
 }
 
 fn reset_rows(contexts: &mut [u16], history: &mut [f32]) {
-    if contexts.len() < 3 {
-        return;
+    if 3 <= contexts.len() && 18 <= history.len() {
+        sound_rows::store_sound(voice::silent(), contexts, 0, history, 0);
     }
-    if history.len() < 18 {
-        return;
-    }
-    sound_rows::store_sound(voice::silent(), contexts, 0, history, 0);
 }
 
+// Whether the voice is ready, or 2 for no voice. The sound of a voice that has stopped is reset.
 #[unsafe(no_mangle)]
 pub extern "C" fn probe_prepare(
     words: &mut [u32],
@@ -66,32 +59,14 @@ pub extern "C" fn probe_prepare(
     contexts: &mut [u16],
     history: &mut [f32],
 ) -> u32 {
-    let code = prepare_rows(words, longs, floats);
-    if code == 3 {
+    let Some(p) = prepare_rows(words, longs, floats) else {
+        return 2;
+    };
+    if p.reset {
         reset_rows(contexts, history);
         return 0;
     }
-    code
-}
-
-// A voice after its flush walk, and the turns; 5 where it has no such base slot.
-#[derive(Clone, Copy)]
-struct Walked {
-    voice: voice::Voice,
-    turns: u32,
-}
-
-// Its queue walked by so many turns.
-fn flush_voice(v: voice::Voice, count: u32) -> Walked {
-    if v.base_index > 3 {
-        return Walked { voice: v, turns: 5 };
-    }
-    let f = voice::flush(voice::queue_of(v), v.base_index, count);
-    let voice = voice::with_queue(v, f.queue);
-    Walked {
-        voice,
-        turns: f.turns,
-    }
+    p.ready as u32
 }
 
 // The flush walk of the voice in these rows, of so many turns from its base slot on, its queue stored. The turns that it took, or 5 where
@@ -103,27 +78,18 @@ pub extern "C" fn probe_flush(
     floats: &mut [f32],
     count: u32,
 ) -> u32 {
-    if words.len() < VOICE_WORDS {
+    let Some(v) = load(words, longs, floats) else {
+        return 5;
+    };
+    if v.base_index > 3 {
         return 5;
     }
-    if longs.len() < VOICE_LONGS {
-        return 5;
-    }
-    if floats.len() < VOICE_FLOATS {
-        return 5;
-    }
-    let v = voice_rows::load_voice(words, longs, floats);
-    let f = flush_voice(v, count);
-    if f.turns == 5 {
-        return 5;
-    }
-    let w = f.voice;
-    voice_rows::store_voice(w, words, 0, longs, 0, floats, 0);
+    let f = voice::flush(voice::queue_of(v), v.base_index, count);
+    voice_rows::store_voice(voice::with_queue(v, f.queue), words, 0, longs, 0, floats, 0);
     f.turns
 }
 
 #[unsafe(no_mangle)]
 pub extern "C" fn probe_offsets_valid(record: &[u8], format: u32) -> u32 {
-    let wave = WaveBuffer::parse(record);
-    if wave.offsets_valid(format) { 1 } else { 0 }
+    WaveBuffer::parse(record).offsets_valid(format) as u32
 }

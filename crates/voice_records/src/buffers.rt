@@ -10,23 +10,16 @@ fn recorded_buffer(old: WaveBuffer, p: &[u8], format: u32, b: usize) -> WaveBuff
     ensures { result ≡ recorded_buffer format p.now b old }
 {
     let w = fields::section(p, 0x60 + b * 0x38, 0x38);
-    if fields::byte_at(w, 0x1a) == 0 {
-        let wb = WaveBuffer::parse(w);
-        if wb.offsets_valid(format) {
-            return wb;
-        }
+    if fields::byte_at(w, 0x1a) != 0 {
         return old;
     }
-    old
+    let wb = WaveBuffer::parse(w);
+    if wb.offsets_valid(format) { wb } else { old }
 }
 
 // All four.
 pub fn recorded_buffers(old: [WaveBuffer; 4], p: &[u8], format: u32) -> [WaveBuffer; 4]
     ensures { result ≡ recorded_buffers format p.now old }
 {
-    let b0 = recorded_buffer(old[0], p, format, 0);
-    let b1 = recorded_buffer(old[1], p, format, 1);
-    let b2 = recorded_buffer(old[2], p, format, 2);
-    let b3 = recorded_buffer(old[3], p, format, 3);
-    [b0, b1, b2, b3]
+    std::array::from_fn(|b| recorded_buffer(old[b], p, format, b))
 }

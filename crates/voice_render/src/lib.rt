@@ -39,10 +39,9 @@ pub fn render_voice(
     }
     let b = state_voices::begin_voice(p, k, words, longs, floats, contexts, history);
     if b.ready {
-        let v = b.voice;
         return voice_turn::render_ready(
-            p, r, ranges, memory, k, v, 0, words, longs, floats, contexts, history, buffers, src,
-            out,
+            p, r, ranges, memory, k, b.voice, 0, words, longs, floats, contexts, history, buffers,
+            src, out,
         );
     }
     0

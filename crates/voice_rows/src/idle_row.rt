@@ -36,13 +36,7 @@ fn wave_stored(words: &[u32], at: usize) -> bool
     requires { at + 8 ≤ length words.now }
     ensures { result ≡ true → StoredWave words.now at }
 {
-    if 1 < words[at + LOOPING] {
-        return false;
-    }
-    if 1 < words[at + END_OF_STREAM] {
-        return false;
-    }
-    words[at + PENDING] <= 1
+    words[at + LOOPING] <= 1 && words[at + END_OF_STREAM] <= 1 && words[at + PENDING] <= 1
 }
 
 // The same of the four wave buffers from a place on.
@@ -50,14 +44,7 @@ fn waves_stored(words: &[u32], at: usize) -> bool
     requires { at + 32 ≤ length words.now }
     ensures { result ≡ true → StoredWaves words.now at }
 {
-    let mut b = 0;
-    while b < 4 {
-        if !wave_stored(words, at + b * WAVE_WORDS) {
-            return false;
-        }
-        b += 1;
-    }
-    true
+    (0..4).all(|b| wave_stored(words, at + b * WAVE_WORDS))
 }
 
 // The same of four flags from a place on.
@@ -65,14 +52,7 @@ fn flags_stored(words: &[u32], at: usize) -> bool
     requires { at + 4 ≤ length words.now }
     ensures { result ≡ true → StoredFlags words.now at }
 {
-    let mut k = 0;
-    while k < 4 {
-        if 1 < words[at + k] {
-            return false;
-        }
-        k += 1;
-    }
-    true
+    (0..4).all(|k| words[at + k] <= 1)
 }
 
 // Whether the first 58 words are as a voice stores them.
@@ -80,29 +60,18 @@ fn row_stored(words: &[u32]) -> bool
     requires { 58 ≤ length words.now }
     ensures { result ≡ true → StoredRow words.now }
 {
-    if 1 < words[IN_USE] {
-        return false;
-    }
-    if 1 < words[FRESH] {
-        return false;
-    }
-    if PAUSED < words[PLAY] {
-        return false;
-    }
-    if !flags_stored(words, VALID) {
-        return false;
-    }
-    waves_stored(words, WAVES)
+    words[IN_USE] <= 1
+        && words[FRESH] <= 1
+        && words[PLAY] <= PAUSED
+        && flags_stored(words, VALID)
+        && waves_stored(words, WAVES)
 }
 
 // Whether a voice with this play mark waits.
 fn waits(play: u32) -> bool
     ensures { result ≡ true → (play ≡ 1) ⊎ (play ≡ 3) }
 {
-    if play == STOPPED {
-        return true;
-    }
-    play == PAUSED
+    play == STOPPED || play == PAUSED
 }
 
 // Whether the voice in the first 58 words has nothing to do: it is not in use, has nothing queued, or waits with nothing new and nothing to
@@ -111,20 +80,7 @@ pub fn idle(words: &[u32]) -> bool
     requires { 58 ≤ length words.now }
     ensures { result ≡ true → IdleRow words.now }
 {
-    if words[IN_USE] == 0 {
-        return true;
-    }
-    if words[QUEUED] == 0 {
-        return true;
-    }
-    if words[FRESH] != 0 {
-        return false;
-    }
-    if words[FLUSH] != 0 {
-        return false;
-    }
-    if !waits(words[PLAY]) {
-        return false;
-    }
-    row_stored(words)
+    words[IN_USE] == 0
+        || words[QUEUED] == 0
+        || (words[FRESH] == 0 && words[FLUSH] == 0 && waits(words[PLAY]) && row_stored(words))
 }

@@ -35,8 +35,6 @@ fn word_of_play(p: Play) -> u32
 fn voice_of(w: [u32; 26], play: Play, l: [u64; 2], buffers: [WaveBuffer; 4], f: [f32; 4]) -> Voice
     ensures { result ≡ voice_from w play l buffers f }
 {
-    let ids = [w[12], w[13], w[14], w[15], w[16], w[17]];
-    let valid = [w[18] != 0, w[19] != 0, w[20] != 0, w[21] != 0];
     Voice {
         in_use: w[0] != 0,
         fresh: w[1] != 0,
@@ -53,10 +51,10 @@ fn voice_of(w: [u32; 26], play: Play, l: [u64; 2], buffers: [WaveBuffer; 4], f: 
         decoding: w[9],
         mix_id: w[10],
         splitter_id: w[11],
-        channel_ids: ids,
+        channel_ids: [w[12], w[13], w[14], w[15], w[16], w[17]],
         data_source: l[0],
         buffers,
-        valid,
+        valid: [w[18] != 0, w[19] != 0, w[20] != 0, w[21] != 0],
         index: w[22],
         consumed: w[23],
         offset: w[24],
@@ -66,13 +64,13 @@ fn voice_of(w: [u32; 26], play: Play, l: [u64; 2], buffers: [WaveBuffer; 4], f: 
     }
 }
 
-fn head_of(v: Voice, play: u32) -> [u32; 26]
-    ensures { result ≡ head_from v play }
+fn head_of(v: Voice) -> [u32; 26]
+    ensures { result ≡ head_from v (word_of_play v.play) }
 {
     [
-        v.in_use as u32,
-        v.fresh as u32,
-        play,
+        u32::from(v.in_use),
+        u32::from(v.fresh),
+        word_of_play(v.play),
         v.format,
         v.sample_rate,
         v.channels,
@@ -88,10 +86,10 @@ fn head_of(v: Voice, play: u32) -> [u32; 26]
         v.channel_ids[3],
         v.channel_ids[4],
         v.channel_ids[5],
-        v.valid[0] as u32,
-        v.valid[1] as u32,
-        v.valid[2] as u32,
-        v.valid[3] as u32,
+        u32::from(v.valid[0]),
+        u32::from(v.valid[1]),
+        u32::from(v.valid[2]),
+        u32::from(v.valid[3]),
         v.index,
         v.consumed,
         v.offset,
@@ -119,59 +117,45 @@ pub fn load_voice(words: &[u32], longs: &[u64], floats: &[f32]) -> Voice
     ensures { result ≡ voice_of words.now longs.now floats.now }
 {
     let mut w = [0u32; 26];
-    rows::copy_out_u32(&mut w, words, 0);
+    rows::copy_out(&mut w, words, 0);
     let mut l = [0u64; 2];
-    rows::copy_out_u64(&mut l, longs, 0);
+    rows::copy_out(&mut l, longs, 0);
     let mut f = [0.0f32; 4];
-    rows::copy_out_f32(&mut f, floats, 0);
-    let play = play_of(words[2]);
-    let b0 = load_wave(words, 26, longs, 2);
-    let b1 = load_wave(words, 34, longs, 5);
-    let b2 = load_wave(words, 42, longs, 8);
-    let b3 = load_wave(words, 50, longs, 11);
-    let buffers = [b0, b1, b2, b3];
-    voice_of(w, play, l, buffers, f)
+    rows::copy_out(&mut f, floats, 0);
+    let buffers = [
+        load_wave(words, 26, longs, 2),
+        load_wave(words, 34, longs, 5),
+        load_wave(words, 42, longs, 8),
+        load_wave(words, 50, longs, 11),
+    ];
+    voice_of(w, play_of(words[2]), l, buffers, f)
 }
 
 fn store_words(v: Voice, words: &mut [u32], at: usize)
     requires { at + 58 ≤ length words.old }
     ensures { words.new ≡ put words.old at (words_of v) }
 {
-    let play = v.play;
-    let row = head_of(v, word_of_play(play));
-    rows::copy_in_u32(words, at, &row);
-    let b0 = v.buffers[0];
-    store_wave_words(b0, words, at + 26);
-    let b1 = v.buffers[1];
-    store_wave_words(b1, words, at + 34);
-    let b2 = v.buffers[2];
-    store_wave_words(b2, words, at + 42);
-    let b3 = v.buffers[3];
-    store_wave_words(b3, words, at + 50);
+    rows::copy_in(words, at, &head_of(v));
+    for k in 0..4 {
+        store_wave_words(v.buffers[k], words, at + 26 + k * 8);
+    }
 }
 
 fn store_longs(v: Voice, longs: &mut [u64], at: usize)
     requires { at + 14 ≤ length longs.old }
     ensures { longs.new ≡ put longs.old at (longs_of v) }
 {
-    let row = top_of(v);
-    rows::copy_in_u64(longs, at, &row);
-    let b0 = v.buffers[0];
-    store_wave_longs(b0, longs, at + 2);
-    let b1 = v.buffers[1];
-    store_wave_longs(b1, longs, at + 5);
-    let b2 = v.buffers[2];
-    store_wave_longs(b2, longs, at + 8);
-    let b3 = v.buffers[3];
-    store_wave_longs(b3, longs, at + 11);
+    rows::copy_in(longs, at, &top_of(v));
+    for k in 0..4 {
+        store_wave_longs(v.buffers[k], longs, at + 2 + k * 3);
+    }
 }
 
 fn store_floats(v: Voice, floats: &mut [f32], at: usize)
     requires { at + 4 ≤ length floats.old }
     ensures { floats.new ≡ put floats.old at (floats_of v) }
 {
-    let row = floats_of(v);
-    rows::copy_in_f32(floats, at, &row);
+    rows::copy_in(floats, at, &floats_of(v));
 }
 
 // The voice's rows in place of those at the three places.

@@ -29,12 +29,12 @@ fn words_of_wave(b: WaveBuffer) -> [u32; 8]
     [
         b.start,
         b.end,
-        b.looping as u32,
-        b.end_of_stream as u32,
+        u32::from(b.looping),
+        u32::from(b.end_of_stream),
         b.loop_count,
         b.loop_start,
         b.loop_end,
-        b.pending as u32,
+        u32::from(b.pending),
     ]
 }
 
@@ -50,9 +50,9 @@ pub fn load_wave(words: &[u32], at_w: usize, longs: &[u64], at_l: usize) -> Wave
     ensures { result ≡ wave_of (part 8 at_w words.now) (part 3 at_l longs.now) }
 {
     let mut w = [0u32; 8];
-    rows::copy_out_u32(&mut w, words, at_w);
+    rows::copy_out(&mut w, words, at_w);
     let mut l = [0u64; 3];
-    rows::copy_out_u64(&mut l, longs, at_l);
+    rows::copy_out(&mut l, longs, at_l);
     wave_of(w, l)
 }
 
@@ -60,14 +60,12 @@ pub fn store_wave_words(b: WaveBuffer, words: &mut [u32], at: usize)
     requires { at + 8 ≤ length words.old }
     ensures { words.new ≡ put words.old at (words_of_wave b) }
 {
-    let row = words_of_wave(b);
-    rows::copy_in_u32(words, at, &row);
+    rows::copy_in(words, at, &words_of_wave(b));
 }
 
 pub fn store_wave_longs(b: WaveBuffer, longs: &mut [u64], at: usize)
     requires { at + 3 ≤ length longs.old }
     ensures { longs.new ≡ put longs.old at (longs_of_wave b) }
 {
-    let row = longs_of_wave(b);
-    rows::copy_in_u64(longs, at, &row);
+    rows::copy_in(longs, at, &longs_of_wave(b));
 }

@@ -1,58 +1,48 @@
 // A voice's sends to one mix: each channel by its resource.
 ghost use Rattle.std.specs.Prelude.{◌≡◌, ◌*◌, ◌<◌, length};
-ghost use Rattle.desk_rows.specs.DeskRows.{Mixes, mix_offset, mix_buffers};
-ghost use Rattle.voice_sends.specs.Sending.{Ids, Rowed, passing, mix_sends, to_mix};
+ghost use Rattle.desk_rows.specs.DeskRows.{mix_offset, mix_buffers};
+ghost use Rattle.voice_sends.specs.Sending.{Ids, passing, mix_sends, to_mix};
 
-use crate::gains::{resource_of, send_channel};
+use crate::gains::send_channel;
+use crate::samples::Rows;
+use desk_rows::MixRows;
 
 // To mix m, which is there.
 fn mix_sends(
     buffers: &mut [f32],
-    n: usize,
-    out: &[f32],
-    channels: usize,
+    rows: &Rows,
     ids: [u32; 6],
-    mixes: &[u32],
-    nm: usize,
+    mixes: &MixRows,
     m: usize,
     resources: &mut [f32],
     nc: usize,
 )
-    requires fact_1 { Rowed n channels out.now }
-    requires fact_2 { Ids nc ids }
-    requires fact_3 { Mixes nm mixes.now }
-    requires fact_4 { (m < nm) × (length resources.old ≡ nc * 48) }
-    ensures { passing buffers.new resources.new ≡ mix_sends n out.now channels ids (mix_offset mixes.now m) (mix_buffers mixes.now m) (passing buffers.old resources.old) }
+    requires ids { Ids nc ids }
+    requires there { (m < mixes.now.n) × (length resources.old ≡ nc * 48) }
+    ensures { passing buffers.new resources.new ≡ mix_sends rows.now.n rows.now.samples.now rows.now.channels ids (mix_offset mixes.now.words.now m) (mix_buffers mixes.now.words.now m) (passing buffers.old resources.old) }
 {
-    let mut c = 0;
-    while c < channels {
-        let id = resource_of(ids, nc, c);
-        send_channel(buffers, n, out, channels, mixes, nm, m, c, resources, id);
-        c += 1;
+    for c in 0..rows.channels {
+        let id = ids[c] as usize;
+        send_channel(buffers, rows, mixes, m, c, resources, id);
     }
 }
 
 // To mix m, where there is one of that number.
 pub fn to_mix(
     buffers: &mut [f32],
-    n: usize,
-    out: &[f32],
-    channels: usize,
+    rows: &Rows,
     ids: [u32; 6],
-    mixes: &[u32],
-    nm: usize,
+    mixes: &MixRows,
     m: usize,
     resources: &mut [f32],
     nc: usize,
 )
-    requires fact_1 { Rowed n channels out.now }
-    requires fact_2 { Ids nc ids }
-    requires fact_3 { Mixes nm mixes.now }
-    requires fact_4 { length resources.old ≡ nc * 48 }
-    ensures { passing buffers.new resources.new ≡ to_mix n out.now channels ids mixes.now nm m (passing buffers.old resources.old) }
+    requires ids { Ids nc ids }
+    requires resources { length resources.old ≡ nc * 48 }
+    ensures { passing buffers.new resources.new ≡ to_mix rows.now.n rows.now.samples.now rows.now.channels ids mixes.now.words.now mixes.now.n m (passing buffers.old resources.old) }
 {
-    if m >= nm {
+    if m >= mixes.n {
         return;
     }
-    mix_sends(buffers, n, out, channels, ids, mixes, nm, m, resources, nc);
+    mix_sends(buffers, rows, ids, mixes, m, resources, nc);
 }

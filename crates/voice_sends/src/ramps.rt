@@ -17,9 +17,7 @@ pub fn ramp_rows(out: &mut [f32], n: usize, channels: usize, from: f32, to: f32)
     requires { (channels * n ≤ length out.old) × (n ≤ 256) × (channels ≤ 6) }
     ensures { out.new ≡ ramped_rows from to n channels out.old }
 {
-    let mut c = 0;
-    while c < channels {
+    for c in 0..channels {
         ramp_row(out, n, c, from, to);
-        c += 1;
     }
 }

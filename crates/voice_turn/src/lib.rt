@@ -73,13 +73,12 @@ fn send_turn(
     ensures floats_after { floats.new ≡ sent_floats (destined v) p v (route_out from to p.sample_count v.channels out.old) words.now floats.old buffers.old }
 {
     if voice::has_destination(v.mix_id, v.splitter_id) {
-        let ids = v.channel_ids;
         sending::send(
             p,
             v.mix_id,
             v.splitter_id,
             v.channels,
-            ids,
+            v.channel_ids,
             from,
             to,
             out,
@@ -112,8 +111,7 @@ fn turn_in(
     ensures { (n : ℕ) → studio (state_of words.new longs.new floats.new contexts.new history.new) buffers.new (n + result) ≡ played p (render_over r ranges.now) memory.now k v (studio (state_of words.old longs.old floats.old contexts.old history.old) buffers.old n) }
 {
     let t = turn::plan_turn(v, r, ranges);
-    let voice = t.voice;
-    state_voices::store_voice_at(k, voice, words, longs, floats);
+    state_voices::store_voice_at(k, t.voice, words, longs, floats);
     hear_turn(t, v, r, ranges, memory, k, contexts, history, src, out);
     send_turn(p, v, t.from, t.to, out, words, floats, buffers);
     t.plan.rounds
@@ -149,13 +147,7 @@ fn enough(row: u32, places: usize, needed: usize) -> bool
     requires { needed ≤ 4097 }
     ensures { (result ≡ true → row ≡ 0 → 3 + needed ≤ places) × (result ≡ false → row ≡ 0) }
 {
-    if row == 0 {
-        if 3 + needed <= places {
-            return true;
-        }
-        return false;
-    }
-    true
+    row != 0 || 3 + needed <= places
 }
 
 // The same in the first row from `row` on that has room: row 0 is src, and row 1 one of its own.

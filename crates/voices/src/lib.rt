@@ -20,12 +20,9 @@ pub fn voice_at(k: usize, words: &[u32], longs: &[u64], floats: &[f32]) -> Voice
     ensures { result ≡ voice_at k words.now longs.now floats.now }
 {
     let w = k * 58;
-    let we = w + 58;
     let l = k * 14;
-    let le = l + 14;
     let f = k * 4;
-    let fe = f + 4;
-    voice_rows::load_voice(&words[w..we], &longs[l..le], &floats[f..fe])
+    voice_rows::load_voice(&words[w..w + 58], &longs[l..l + 14], &floats[f..f + 4])
 }
 
 // What record p makes of voice k.
@@ -98,9 +95,9 @@ fn update_one(
     let p = fields::section(d, k * VOICE_IN, VOICE_IN);
     if voice_records::record_used(p) {
         update_used(p, revision, n, k, words, longs, floats, contexts, history);
-        return;
+    } else {
+        words[k * 58] = 0;
     }
-    words[k * 58] = 0;
 }
 
 // All n voices. What the Rust writes of their status is the reply's.
@@ -121,9 +118,7 @@ pub fn update_voices(
     ensures contexts_after { contexts.new ≡ (voices_of revision d.now n (rows_of words.old longs.old floats.old contexts.old history.old)).contexts }
     ensures history_after { history.new ≡ (voices_of revision d.now n (rows_of words.old longs.old floats.old contexts.old history.old)).history }
 {
-    let mut k = 0;
-    while k < n {
+    for k in 0..n {
         update_one(d, revision, n, k, words, longs, floats, contexts, history);
-        k += 1;
     }
 }

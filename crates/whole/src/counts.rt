@@ -8,39 +8,18 @@ use params::Params;
 pub fn samples_allowed(p: Params) -> bool
     ensures { result ≡ samples_allowed p }
 {
-    if p.sample_count < 1 {
-        return false;
-    }
-    if 256 < p.sample_count {
-        return false;
-    }
-    true
+    (1..=256).contains(&p.sample_count)
 }
 
 // All other counts.
 pub fn counts_allowed(p: Params) -> bool
     ensures { result ≡ counts_allowed p }
 {
-    if 96 < p.mix_buffers {
-        return false;
-    }
-    if 31 < p.sub_mixes {
-        return false;
-    }
-    if 64 < p.voices {
-        return false;
-    }
-    if 8 < p.sinks {
-        return false;
-    }
-    if 64 < p.effects {
-        return false;
-    }
-    if 32 < p.splitters {
-        return false;
-    }
-    if 128 < p.splitter_destinations {
-        return false;
-    }
-    true
+    p.mix_buffers <= 96
+        && p.sub_mixes <= 31
+        && p.voices <= 64
+        && p.sinks <= 8
+        && p.effects <= 64
+        && p.splitters <= 32
+        && p.splitter_destinations <= 128
 }

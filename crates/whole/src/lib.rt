@@ -24,22 +24,11 @@ pub fn lengths_right(
 ) -> bool
     ensures { result ≡ lengths_right at words longs floats contexts history }
 {
-    if words != at.words {
-        return false;
-    }
-    if longs != at.longs {
-        return false;
-    }
-    if floats != at.floats {
-        return false;
-    }
-    if contexts != at.contexts {
-        return false;
-    }
-    if history != at.history {
-        return false;
-    }
-    true
+    words == at.words
+        && longs == at.longs
+        && floats == at.floats
+        && contexts == at.contexts
+        && history == at.history
 }
 
 // The rows of each kind, lent apart.
@@ -50,29 +39,14 @@ fn rows_whole(p: Params, at: Places, words: &[u32], floats: &[f32]) -> bool
     requires floats_len { length floats.now ≡ floats_of p }
     ensures { result ≡ rows_whole p words.now floats.now }
 {
-    let mix_words = at.mix_words;
-    let sink_words = at.sink_words;
-    let list_words = at.list_words;
-    let end_words = at.words;
-    let voice_floats = at.resource_floats;
-    if !row_tests::voices_whole(
-        &words[10..mix_words],
-        &floats[..voice_floats],
-        p.voices as usize,
-    ) {
-        return false;
-    }
-    if !row_tests::mixes_whole(&words[mix_words..sink_words], at.mixes) {
-        return false;
-    }
-    if !row_tests::sinks_whole(&words[sink_words..list_words], p.sinks as usize) {
-        return false;
-    }
-    let lists = &words[list_words..end_words];
-    if !row_tests::lists_whole(lists, p.splitters as usize, p.splitter_destinations) {
-        return false;
-    }
-    true
+    let voices = &words[10..at.mix_words];
+    let mixes = &words[at.mix_words..at.sink_words];
+    let sinks = &words[at.sink_words..at.list_words];
+    let lists = &words[at.list_words..at.words];
+    row_tests::voices_whole(voices, &floats[..at.resource_floats], p.voices as usize)
+        && row_tests::mixes_whole(mixes, at.mixes)
+        && row_tests::sinks_whole(sinks, p.sinks as usize)
+        && row_tests::lists_whole(lists, p.splitters as usize, p.splitter_destinations)
 }
 
 // A state with these parameters.
@@ -86,27 +60,18 @@ fn whole_by(
 ) -> bool
     ensures { result ≡ whole_by p (state_of words.now longs.now floats.now contexts.now history.now) }
 {
-    if !samples_allowed(p) {
-        return false;
-    }
-    if !counts_allowed(p) {
+    if !samples_allowed(p) || !counts_allowed(p) {
         return false;
     }
     let at = state::places_of(p);
-    if !lengths_right(
+    lengths_right(
         at,
         words.len(),
         longs.len(),
         floats.len(),
         contexts.len(),
         history.len(),
-    ) {
-        return false;
-    }
-    if !rows_whole(p, at, words, floats) {
-        return false;
-    }
-    true
+    ) && rows_whole(p, at, words, floats)
 }
 
 // Question 4.
@@ -119,9 +84,5 @@ pub fn whole(
 ) -> bool
     ensures { result ≡ whole_of (state_of words.now longs.now floats.now contexts.now history.now) }
 {
-    if words.len() < 10 {
-        return false;
-    }
-    let p = Params::load(words);
-    whole_by(p, words, longs, floats, contexts, history)
+    10 <= words.len() && whole_by(Params::load(words), words, longs, floats, contexts, history)
 }

@@ -2,5 +2,4 @@
 use Rattle.cabi.proofs.jeqlluna_open.Goals as goal
 
 pub returns : goal.returns
-returns c =
-    rw (c.number.ensures, ← c.parse.ensures) c.open-answer.ensures
+returns c = rw (c.open_told.ensures, ← c.parse.ensures) c.«open».ensures

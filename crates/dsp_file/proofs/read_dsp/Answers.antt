@@ -7,7 +7,7 @@ use borrow.Author.Tests.{le-leb, lt-leb}
 use lib.Dec.{leb, eqb}
 use lib.ListN.{length}
 use Rattle.dsp_header.specs.Header.{header_size, header_of, padding_of}
-use Rattle.dsp_file.specs.File.{plain_header, holds_samples, read_seen, read_left}
+use Rattle.dsp_file.specs.File.{plain_header, holds_samples, read_left}
 use Rattle.dsp_file.proofs.Asked.{read_is}
 use Rattle.dsp_file.proofs.read_dsp.Goals as goal
 use Rattle.dsp_file.proofs.read_dsp.Goals.{After-holds_samples, After-plain_header, Else-file-lt-HEADER_BYTES, Else-not-padding_is_zero, Else-not-plain_header}
@@ -39,27 +39,24 @@ holds c =
 pub returns-then-file-lt-HEADER_BYTES : goal.returns-then-file-lt-HEADER_BYTES
 returns-then-file-lt-HEADER_BYTES c =
     let file = c.args.file.now in
-    ap read_seen c.refused.ensures ∙ sym (read_is file (lt-leb header_size (length file) (omega arith)) refl refl refl)
+    sym (read_is file (lt-leb header_size (length file) (omega arith)) refl refl refl)
 
 pub returns-then-not-plain_header : goal.returns-then-not-plain_header
 returns-then-not-plain_header c =
-    ap read_seen c.refused-then-not-plain_header.ensures
-    ∙ sym
+    sym
     (read_is c.args.file.now (long (goal.at.returns-then-not-plain_header c).Else-file-lt-HEADER_BYTES)
     (plain (goal.at.returns-then-not-plain_header c).After-plain_header ∙ c.if-not-plain_header.true) refl refl)
 
 pub returns-then-not-padding_is_zero : goal.returns-then-not-padding_is_zero
 returns-then-not-padding_is_zero c =
     let padded = sym c.padding_is_zero.ensures ∙ c.if-not-padding_is_zero.true in
-    ap read_seen c.refused-then-not-padding_is_zero.ensures
-    ∙ sym
+    sym
     (read_is c.args.file.now (long (goal.at.returns-then-not-padding_is_zero c).Else-file-lt-HEADER_BYTES)
     (plain_yes (goal.at.returns-then-not-padding_is_zero c).Else-not-plain_header) padded refl)
 
 pub returns-then-not-holds_samples : goal.returns-then-not-holds_samples
 returns-then-not-holds_samples c =
-    ap read_seen c.refused-then-not-holds_samples.ensures
-    ∙ sym
+    sym
     (read_is c.args.file.now (long (goal.at.returns-then-not-holds_samples c).Else-file-lt-HEADER_BYTES)
     (plain_yes (goal.at.returns-then-not-holds_samples c).Else-not-plain_header) (padding_yes (goal.at.returns-then-not-holds_samples c).Else-not-padding_is_zero) (holds (goal.at.returns-then-not-holds_samples c).After-holds_samples ∙ c.if-not-holds_samples.true))
 

@@ -53,13 +53,13 @@ returns-then-not-has_room c =
 pub put_header-requires : goal.put_header-requires
 put_header-requires c = omega (arith, room (goal.at.put_header-requires c).Else-not-has_room)
 
-pub copy_in_u8-requires : goal.copy_in_u8-requires
-copy_in_u8-requires c = omega (arith, room (goal.at.copy_in_u8-requires c).Else-not-has_room)
+pub copy_in-requires : goal.copy_in-requires
+copy_in-requires c = omega (arith, room (goal.at.copy_in-requires c).Else-not-has_room)
 
 pub returns : goal.returns
 returns c =
     let file = laid_next (laid_first 0 (header_bytes c.args.header) header_size (length_header c.args.header) c.put_header.ensures)
-    c.args.«data».now (length c.args.«data».now) refl (omega (arith, room (goal.at.returns c).Else-not-has_room)) c.copy_in_u8.ensures in
+    c.args.«data».now (length c.args.«data».now) refl (omega (arith, room (goal.at.returns c).Else-not-has_room)) c.copy_in.ensures in
     ap (write_left 0 (header_size + length c.args.«data».now)) file.done
     ∙ sym (write_is _ _ _ (plain_yes (goal.at.returns c).Else-not-plain_header) (sym c.holds_samples.ensures ∙ holds_yes (goal.at.returns c).Else-not-holds_samples)
     (sym c.has_room.ensures ∙ room_yes (goal.at.returns c).Else-not-has_room))

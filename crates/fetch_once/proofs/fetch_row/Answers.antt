@@ -5,10 +5,11 @@ use native.Mathlib.Omega.{arith}
 use Rattle.ranges.proofs.Questions.{laid_facts}
 use Rattle.fetch_once.proofs.fetch_row.Goals as goal
 
-pub coefficients-table-requires : goal.coefficients-table-requires
-coefficients-table-requires c =
-    laid_facts _ _ (sym c.laid.ensures ∙ c.if-not-laid.false)
-    (sym c.near.ensures ∙ c.if-not-near.false)
+pub invariant_of-sample_memory : goal.invariant_of-sample_memory
+invariant_of-sample_memory c = record {
+  ascending = laid_facts _ _ (sym c.laid.ensures ∙ c.if-not-laid.false)
+      (sym c.near.ensures ∙ c.if-not-near.false);
+}
 
 pub fetch_channel-requires : goal.fetch_channel-requires
 fetch_channel-requires c = record {

@@ -10,6 +10,6 @@ pub returns-then-x-high : goal.returns-then-x-high
 unfolding clamp_of
 returns-then-x-high c = simp (c.if-x-low.false, c.if-x-high.true)
 
-pub returns : goal.returns
+pub returns-else-x-high : goal.returns-else-x-high
 unfolding clamp_of
-returns c = simp (c.if-x-low.false, c.if-x-high.false)
+returns-else-x-high c = simp (c.if-x-low.false, c.if-x-high.false)

@@ -10,6 +10,6 @@ returns-then-is_finite c =
     c.clamp.ensures
     ∙ sym (ap (λ (t : Bool). cond t (clamp_of zero32 sixteen c.args.x) zero32) (sym c.is_finite.ensures ∙ c.if-is_finite.true))
 
-pub returns : goal.returns
+pub returns-else-is_finite : goal.returns-else-is_finite
 unfolding ratio_of of_bits
-returns c = simp (sym c.is_finite.ensures ∙ c.if-is_finite.false)
+returns-else-is_finite c = simp (sym c.is_finite.ensures ∙ c.if-is_finite.false)

@@ -1,12 +1,12 @@
--- `frames::plays` meets its contract: each way out is a case of the two tests. Assumes nothing.
-use Rattle.frames.specs.Laws.{not_in_use, by_device, in_use_device}
+-- `frames::plays` meets its contract: each outcome of the first test is a case of the definition. Assumes nothing.
+use borrow.Author.Tests.{eq-eqb, ne_eqb}
+use Rattle.frames.specs.Frames.{plays_at}
 use Rattle.frames.proofs.plays.Goals as goal
 
-pub returns-then-words-k-eq0 : goal.returns-then-words-k-eq0
-returns-then-words-k-eq0 c = not_in_use _ _ c.if-words-k-eq0.true
+pub returns-then-words-k-ne0 : goal.returns-then-words-k-ne0
+unfolding plays_at
+returns-then-words-k-ne0 c = rw (ne_eqb _ 0 c.if-words-k-ne0.true)
 
-pub returns-then-words-k-eq0-2 : goal.returns-then-words-k-eq0-2
-returns-then-words-k-eq0-2 c = by_device _ _ c.if-words-k-eq0.false c.if-words-k-eq0-2.true
-
-pub returns : goal.returns
-returns c = in_use_device _ _ c.if-words-k-eq0.false c.if-words-k-eq0-2.false
+pub returns-else-words-k-ne0 : goal.returns-else-words-k-ne0
+unfolding plays_at
+returns-else-words-k-ne0 c = rw (eq-eqb _ 0 c.if-words-k-ne0.false)

@@ -2,11 +2,8 @@
 use Rattle.std.proofs.Common.{◌+◌, ◌<◌, List, length, drop, refl, arith}
 use lib.Ieee.{Float, binary32, add}
 use Rattle.gain.specs.Gain.{mixed}
-use Rattle.gain.proofs.Doing.{begin, more, end, mixed_at}
+use Rattle.gain.proofs.Doing.{more, end, mixed_at}
 use Rattle.gain.proofs.mix_moving.Goals as goal
-
-pub loop-i-init : goal.loop-i-init
-loop-i-init c = begin _ _
 
 pub loop-i-preserved : goal.loop-i-preserved
 loop-i-preserved c =

@@ -6,6 +6,3 @@ use Rattle.gain.proofs.mix_row.Goals as goal
 pub returns-then-steady : goal.returns-then-steady
 returns-then-steady c =
     c.mix_level.ensures ∙ level_is _ _ (c.steady.ensures c.if-steady.true) _ _
-
-pub returns : goal.returns
-returns c = c.mix_moving.ensures

@@ -9,17 +9,17 @@ pub returns-then-both : goal.returns-then-both
 unfolding ramp_of of_bits
 returns-then-both c = simp (sym c.both.ensures ∙ c.if-both.true)
 
-pub returns-then-not-steady : goal.returns-then-not-steady
+pub returns-else-steady : goal.returns-else-steady
 unfolding ramp_of of_bits
-returns-then-not-steady c =
+returns-else-steady c =
     let a = c.args in
     simp (sym c.both.ensures ∙ c.if-both.false)
     (c.ramp_by.ensures ∙ ap (λ (x : Float). ramped x a.from a.s.now) c.step_of-step.ensures)
 
-pub returns : goal.returns
+pub returns-then-steady : goal.returns-then-steady
 unfolding ramp_of of_bits
-returns c =
+returns-then-steady c =
     let a = c.args in
-    let still = c.steady.ensures c.if-not-steady.false in
+    let still = c.steady.ensures c.if-steady.true in
     simp (sym c.both.ensures ∙ c.if-both.false)
     (c.ramp_level.ensures ∙ scaled_is _ _ still _ ∙ ap (λ (x : Float). ramped x a.from a.s.now) c.step_of-step.ensures)

@@ -2,19 +2,16 @@
 use Rattle.std.proofs.Common.{◌<◌, length, refl, arith}
 use lib.Ieee.{binary32, add}
 use Rattle.gain.specs.Gain.{ramped}
-use Rattle.gain.proofs.Doing.{begin, more, end, ramped_at}
+use Rattle.gain.proofs.Doing.{more, end, ramped_at}
 use Rattle.gain.proofs.ramp_by.Goals as goal
 
-pub loop-i-init : goal.loop-i-init
-loop-i-init c = begin _ _
-
-pub loop-i-preserved : goal.loop-i-preserved
-loop-i-preserved c =
-    let l = c.loop-i in
+pub loop-x-preserved : goal.loop-x-preserved
+loop-x-preserved c =
+    let l = c.loop-x in
     let step = c.args.step in
-    let h : l.i < length l.s = omega arith in
-    more l.invariant (ramped step (add binary32 l.v step)) _ (omega arith) (ramped_at step l.v l.s l.i h)
+    let h : l.x-index < length l.s = omega arith in
+    more l.invariant (ramped step (add binary32 l.v step)) _ (omega arith) (ramped_at step l.v l.s l.x-index h)
 
 pub returns : goal.returns
 unfolding ramped
-returns c = end c.loop-i.invariant (omega arith) refl
+returns c = end c.loop-x.invariant (omega arith) refl

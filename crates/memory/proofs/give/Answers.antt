@@ -4,7 +4,8 @@ use mathlib.Core.Bool.{true, false}
 use mathlib.Core.List.{List, ◌++◌}
 use mathlib.Core.Path.{◌≡◌, ap, sym, ◌∙◌}
 use native.Mathlib.Omega.{arith}
-use lib.ListN.{length, take, drop}
+use lib.ListN.{length, take, drop, length-take}
+use Rattle.rows.specs.Rows.{part}
 use Rattle.ranges.specs.Ranges.{Range, has, room_in}
 use Rattle.ranges.proofs.Holds.{holds_inside, holds_below, holds_past}
 use Rattle.memory.specs.Memory.{piece_of}
@@ -34,6 +35,10 @@ returns-then-size-gone c =
     given_none _ _ _ _ (holds_past c.args.base c.args.size c.args.at (omega arith) (omega arith))
 
 pub returns : goal.returns
+unfolding part
 returns c =
     let held = holds_inside c.args.base c.args.size c.args.at (omega arith) (omega arith) in
-    given_some _ _ _ _ c.requires held c.least-n.ensures c.copy.ensures
+    let from = c.args.start + (c.args.at - c.args.base) in
+    let wide : length (take c.min-n.result c.args.out.now) ≡ c.min-n.result = simp length-take (omega arith) in
+    let cut = c.copy_out.ensures ∙ ap (λ (k : ℕ). take k (drop from c.args.memory.now)) wide in
+    given_some _ _ _ _ c.requires held c.min-n.ensures (λ i. cut i ++ drop c.min-n.result c.args.out.now)

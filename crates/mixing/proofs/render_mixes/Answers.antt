@@ -7,21 +7,22 @@ use lib.Seq.{length-take-le}
 use Rattle.mixing.proofs.Alone.{mixed_down_alone}
 use Rattle.mixing.proofs.render_mixes.Goals as goal
 
-pub final_volume-requires : goal.final_volume-requires
-final_volume-requires c = record { fact_1 = c.requires.fact_1; fact_2 = c.requires.fact_3.0; fact_3 = c.requires.fact_4.1 }
-
-pub returns-then-nm-eq1 : goal.returns-then-nm-eq1
-returns-then-nm-eq1 c =
-    mixed_down_alone _ _ _ _ _ _ _ _ _ c.if-nm-eq1.true c.final_volume.ensures
+pub returns-then-n-eq1 : goal.returns-then-n-eq1
+returns-then-n-eq1 c =
+    mixed_down_alone _ _ _ _ _ _ _ _ _ c.if-n-eq1.true c.final_volume.ensures
 
 pub slice_bounds-render_mixes_in-end : goal.slice_bounds-render_mixes_in-end
 slice_bounds-render_mixes_in-end c =
-    sym (length-take-le c.args.nm (replicate {A = ℕ} 32 0) c.requires.fact_1.few)
+    let mixes = c.args.mixer.now.desk.mixes in
+    sym (length-take-le mixes.n (replicate {A = ℕ} 32 0) mixes.whole.few)
 
 pub slice_bounds-render_mixes_in-end-2 : goal.slice_bounds-render_mixes_in-end-2
 slice_bounds-render_mixes_in-end-2 c =
-    sym (length-take-le c.args.nm (replicate {A = ℕ} 32 0) c.requires.fact_1.few)
+    let mixes = c.args.mixer.now.desk.mixes in
+    sym (length-take-le mixes.n (replicate {A = ℕ} 32 0) mixes.whole.few)
 
-pub render_mixes_in-requires : goal.render_mixes_in-requires
-render_mixes_in-requires c =
-    let long = length-take-le c.args.nm (replicate {A = ℕ} 32 0) c.requires.fact_1.few in record { fact_1 = c.requires.fact_1; fact_2 = c.requires.fact_2; fact_3 = c.requires.fact_3; fact_4 = c.requires.fact_4; fact_5 = (long, long) }
+pub render_mixes_in-requires-clause-room : goal.render_mixes_in-requires-clause-room
+render_mixes_in-requires-clause-room c =
+    let mixes = c.args.mixer.now.desk.mixes in
+    let long = length-take-le mixes.n (replicate {A = ℕ} 32 0) mixes.whole.few in
+    (long, long)

@@ -10,12 +10,10 @@ slice_bounds-run_mixes-end c = front_fits _ c.mix_order-count.ensures.0 c.mix_or
 pub slice_bounds-run_mixes-end-2 : goal.slice_bounds-run_mixes-end-2
 slice_bounds-run_mixes-end-2 c = front_long _ c.mix_order-count.ensures.0 c.mix_order-count.ensures.1
 
-pub run_mixes-requires : goal.run_mixes-requires
-run_mixes-requires c = record { fact_1 = c.requires.fact_1; fact_2 = c.requires.fact_2; fact_3 = c.requires.fact_3; fact_4 = c.requires.fact_4; fact_5 = front_below _ c.mix_order-count.ensures.0 c.mix_order-count.ensures.1 _ (mix_order_below _ _ _ _ _ c.requires.fact_1.one) }
-
-pub final_volume-requires : goal.final_volume-requires
-final_volume-requires c = record { fact_1 = c.requires.fact_1; fact_2 = c.requires.fact_3.0; fact_3 = c.requires.fact_4.1 }
+pub run_mixes-requires-clause-mixes : goal.run_mixes-requires-clause-mixes
+run_mixes-requires-clause-mixes c =
+    front_below _ c.mix_order-count.ensures.0 c.mix_order-count.ensures.1 _ (mix_order_below _ _ _ _ _ c.args.mixer.now.desk.mixes.whole.one)
 
 pub returns : goal.returns
 returns c =
-    mixed_down_from _ _ _ _ _ _ _ _ _ c.mix_order-count.ensures.1 c.run_mixes.ensures c.final_volume.ensures
+    mixed_down_from _ _ _ _ _ _ _ _ _ c.mix_order-count.ensures.1 c.run_mixes.ensures (rw c.run_mixes.auto.src at c.final_volume.ensures)

@@ -1,12 +1,11 @@
-use Prim.Native.Nat.{◌-◌}
-use lib.ListN.{length}
+use mathlib.Core.Path.{◌≡◌}
+use lib.ListN.{length, drop}
 use Rattle.mixing.specs.Mixing.{run_mixes}
-use Rattle.mixing.proofs.Sequence.{Sequence}
 use Rattle.mixing.proofs.run_mixes.Given as goal
 
-abbrev pub invariant-loop-k : goal.invariant-loop-k
-invariant-loop-k l =
-    Sequence (run_mixes l.n l.nm l.mixes l.volumes l.ns l.nd l.lists l.destinations) l.n l.order l.initial.buffers l.buffers l.src l.k
-
-abbrev pub decreases-loop-k : goal.decreases-loop-k
-decreases-loop-k l = length l.order - l.k
+abbrev pub invariant-loop-m : goal.invariant-loop-m
+invariant-loop-m l =
+    let t = l.mixer in
+    let d = t.desk in
+    let run = run_mixes (length l.initial.src) d.mixes.n d.mixes.words.now t.volumes.now d.lists.ns d.lists.nd d.lists.words.now t.destinations.now in
+    run (drop l.m-index l.order) l.buffers ≡ run l.order l.initial.buffers

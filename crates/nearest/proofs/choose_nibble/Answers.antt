@@ -14,10 +14,10 @@ use Rattle.nearest.specs.Levels.{offset_binary, apart_of, prediction_of, level_a
 use Rattle.nearest.proofs.Offsets.{offset_back}
 use Rattle.nearest.proofs.Ranks.{nibble_is, sample_is, difference_is}
 use Rattle.nearest.proofs.choose_nibble.Goals as goal
-use Rattle.nearest.proofs.choose_nibble.Goals.{After-apart-difference}
+use Rattle.nearest.proofs.choose_nibble.Goals.{After-abs_diff}
 
 -- after the last call: the arguments, and what the calls gave
-module _ (end : After-apart-difference) where
+module _ (end : After-abs_diff) where
   abbrev x : ℤ
   x = end.args.x
 
@@ -88,8 +88,8 @@ module _ (end : After-apart-difference) where
   sample_nearest : sub_ℕ y 32768 ≡ nearest
   sample_nearest = ap (λ (n : ℕ). sub_ℕ n 32768) y_nearest ∙ offset_back nearest (step_fits _ _ _ _ _ _)
 
-  off : end.apart-difference.result ≡ difference_of x nearest
-  off = end.apart-difference.ensures
+  off : end.abs_diff.result ≡ difference_of x nearest
+  off = end.abs_diff.ensures
       ∙ (λ i. apart_of (t_is i) (y_is i))
       ∙ difference_is x s c d h0 h1 end.ranges.x one two r r_is few
 
@@ -97,11 +97,11 @@ module _ (end : After-apart-difference) where
   chosen = nibble_is x s c d h0 h1 end.ranges.x one two r r_is few
 
 pub returns : goal.returns
-returns c =
-    let lowered = c.from_offset_binary-sample in
+returns end =
+    let lowered = end.from_offset_binary in
     record {
-      nibble_is = chosen c;
-      sample_is = back w16 lowered.result lowered.type_inv ∙ lowered.ensures ∙ sample_nearest c;
-      difference_is = off c;
-      small = omega (arith, c.apart-difference.ensures, y_le c, t_le c);
+      nibble_is = chosen end;
+      sample_is = back w16 lowered.result lowered.type_inv ∙ lowered.ensures ∙ sample_nearest end;
+      difference_is = off end;
+      small = omega (arith, end.abs_diff.ensures, y_le end, t_le end);
     }

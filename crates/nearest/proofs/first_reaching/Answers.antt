@@ -31,8 +31,5 @@ module _ (c : After-step_size-p) where
 pub returns-then-need-predicted : goal.returns-then-need-predicted
 returns-then-need-predicted c = reach_none _ _ _ (omega arith) ∙ named (goal.at.returns-then-need-predicted c).After-step_size-p
 
-pub returns-then-q-lt16 : goal.returns-then-q-lt16
-returns-then-q-lt16 c = omega arith ∙ found (goal.at.returns-then-q-lt16 c).After-step_size-p (omega arith)
-
 pub returns : goal.returns
 returns c = omega arith ∙ found (goal.at.returns c).After-step_size-p (omega arith)

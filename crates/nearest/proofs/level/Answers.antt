@@ -27,11 +27,5 @@ overflow_mul-x c = record { fits = omega (arith, small c) }
 pub overflow_add-x : goal.overflow_add-x
 overflow_add-x c = record { fits = omega (arith, small c) }
 
-pub returns-then-x-low : goal.returns-then-x-low
-returns-then-x-low c = (omega arith ∙ named (goal.at.returns-then-x-low c).After-step_size-p, omega arith)
-
-pub returns-then-x-low-lt65535 : goal.returns-then-x-low-lt65535
-returns-then-x-low-lt65535 c = (omega arith ∙ named (goal.at.returns-then-x-low-lt65535 c).After-step_size-p, omega arith)
-
 pub returns : goal.returns
 returns c = (omega arith ∙ named (goal.at.returns c).After-step_size-p, omega arith)

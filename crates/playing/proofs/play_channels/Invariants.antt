@@ -8,6 +8,3 @@ use Rattle.playing.proofs.play_channels.Given as goal
 abbrev pub invariant-loop-c : goal.invariant-loop-c
 invariant-loop-c l =
     Sounding (material l.q (over l.s l.ranges) l.memory (length l.initial.src - 3) l.sound l.ratio l.fraction l.n) l.initial.src l.initial.out l.src l.out l.kept l.c
-
-abbrev pub decreases-loop-c : goal.decreases-loop-c
-decreases-loop-c l = l.s.channels - l.c

@@ -2,6 +2,6 @@
 use native.Mathlib.Omega.{arith}
 use Rattle.playing.proofs.three_of.Goals as goal
 
-pub copy_out_f32-requires : goal.copy_out_f32-requires
-copy_out_f32-requires c =
+pub copy_out-requires : goal.copy_out-requires
+copy_out-requires c =
     omega (arith, c.well_formed.0.1.1.0.1.0.1)

@@ -5,21 +5,19 @@ use Rattle.ranges.proofs.Tests.{and_passed, and_failed}
 use Rattle.ranges.proofs.Walk.{walk_begin, walk_here, walk_more, walk_end}
 use Rattle.ranges.proofs.follow.Goals as goal
 
-pub loop-i-init : goal.loop-i-init
-loop-i-init c = walk_begin refl
+pub loop-base-init : goal.loop-base-init
+loop-base-init c = walk_begin c.triples-base-items.ensures refl
 
 pub returns-then-not-follows : goal.returns-then-not-follows
 unfolding follow
 returns-then-not-follows c =
-    let walk = c.loop-i.invariant in
-    and_failed _ (sym c.follows.ensures ∙ c.if-not-follows.true) ∙ walk_here walk (omega arith)
+    and_failed _ (sym c.follows.ensures ∙ c.if-not-follows.true) ∙ walk_here c.loop-base.invariant (omega arith)
 
-pub loop-i-preserved : goal.loop-i-preserved
+pub loop-base-preserved : goal.loop-base-preserved
 unfolding follow
-loop-i-preserved c =
-    let walk = c.loop-i.invariant in
-    walk_more walk (omega arith) (λ rs e. and_passed _ (sym c.follows.ensures ∙ c.if-not-follows.false) ∙ e)
+loop-base-preserved c =
+    walk_more c.loop-base.invariant (omega arith) (λ rs e. and_passed _ (sym c.follows.ensures ∙ c.if-not-follows.false) ∙ e)
 
 pub returns : goal.returns
 unfolding follow
-returns c = walk_end c.loop-i.invariant (omega arith)
+returns c = walk_end c.loop-base.invariant (omega arith)

@@ -22,10 +22,10 @@ returns-then-left-room c =
     let a = c.args in
     let t = holds_inside a.base a.size a.at (omega arith) (omega arith) in
     let none : 0 ≡ a.left - room_of a.base a.size a.at = omega arith in
-    (c.wrapping_add_u64-end.ensures.value ∙ sym (at_held _ _ _ t), none ∙ sym (left_held _ _ _ _ t))
+    (sym (at_held _ _ _ t), none ∙ sym (left_held _ _ _ _ t))
 
 pub returns : goal.returns
 returns c =
     let a = c.args in
     let t = holds_inside a.base a.size a.at (omega arith) (omega arith) in
-    (c.wrapping_add_u64-end.ensures.value ∙ sym (at_held _ _ _ t), sym (left_held _ _ _ _ t))
+    (sym (at_held _ _ _ t), sym (left_held _ _ _ _ t))

@@ -1,12 +1,9 @@
-use mathlib.Core.Path.{◌≡◌, refl, sym, ◌∙◌}
-use Prim.Native.Nat.{◌-◌}
-use native.Mathlib.Omega.{arith}
-use borrow.Author.Rules.{rules}
+use mathlib.Core.Path.{◌≡◌}
 use lib.ListN.{length}
 use Rattle.state.specs.State.{state_of}
 use Rattle.turn.specs.Render.{render_over}
 use Rattle.voice_turn.specs.Played.{studio}
-use Rattle.render_turns.proofs.Loop.{Going, going_begin, spent_few, going_more, going_end}
+use Rattle.render_turns.proofs.Loop.{Going}
 use Rattle.render_turns.proofs.render_voices.Given as goal
 
 abbrev pub invariant-loop-k : goal.invariant-loop-k
@@ -15,7 +12,3 @@ invariant-loop-k l =
     (state_of l.words l.longs l.floats l.contexts l.history) l.buffers l.rounds l.k
     × (length l.src ≡ length l.initial.src)
     × (length l.out ≡ length l.initial.out)
-
-abbrev pub decreases-loop-k : goal.decreases-loop-k
-decreases-loop-k l =
-    l.n - l.k

@@ -1,15 +1,15 @@
 -- `renderer::lengths` meets its contract. Assumes nothing.
-use Rattle.renderer.specs.Made.{lengths_one, lengths_two, allowed, lengths_given_lem}
+use Rattle.std.proofs.lemmas.Result.{err_from_is_err_and}
+use Rattle.renderer.specs.Made.{lengths_not, allowed, lengths_given_lem}
 use Rattle.renderer.proofs.lengths.Goals as goal
 
-pub returns-then-not-samples_allowed : goal.returns-then-not-samples_allowed
-returns-then-not-samples_allowed c = lengths_one _ c.samples_allowed.ensures c.if-not-samples_allowed.true-raw
-
-pub returns-then-not-counts_allowed : goal.returns-then-not-counts_allowed
-returns-then-not-counts_allowed c = lengths_two _ c.samples_allowed.ensures c.if-not-samples_allowed.false-raw c.counts_allowed.ensures c.if-not-counts_allowed.true-raw
+pub returns-in_err-allowed : goal.returns-in_err-allowed
+returns-in_err-allowed c =
+    let p = err_from_is_err_and c.from_residual.result c.from_residual.ensures.1 in
+    rw (p.1, p.2) (lengths_not _ c.allowed.ensures c.in_err-allowed.was)
 
 pub places_of-at-requires : goal.places_of-at-requires
-places_of-at-requires c = allowed _ c.samples_allowed.ensures c.if-not-samples_allowed.false-raw c.counts_allowed.ensures c.if-not-counts_allowed.false-raw
+places_of-at-requires c = allowed _ c.allowed.ensures c.in_ok-allowed.was
 
 pub returns : goal.returns
-returns c = lengths_given_lem _ c.samples_allowed.ensures c.if-not-samples_allowed.false-raw c.counts_allowed.ensures c.if-not-counts_allowed.false-raw c.places_of-at.ensures.0
+returns c = lengths_given_lem _ c.allowed.ensures c.in_ok-allowed.was c.places_of-at.ensures.0

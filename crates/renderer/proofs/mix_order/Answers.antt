@@ -9,10 +9,10 @@ returns-then-not-whole c = order_four _ c.whole.ensures c.if-not-whole.true-raw
 pub load-requires : goal.load-requires
 load-requires c = (whole_facts _ (passed c.whole.ensures c.if-not-whole.false-raw)).front
 
-pub mix_order-order-requires : goal.mix_order-order-requires
-mix_order-order-requires c =
+pub mix_order-requires : goal.mix_order-requires
+mix_order-requires c =
     let w = whole_facts _ (passed c.whole.ensures c.if-not-whole.false-raw) in
     rw c.load.ensures (record { fact_1 = w.allowed; fact_2 = w.sized.words; fact_3 = w.mixes; fact_4 = w.lists })
 
 pub returns : goal.returns
-returns c = order_done _ c.whole.ensures c.if-not-whole.false-raw c.load.ensures c.mix_order-order.ensures
+returns c = order_done _ c.whole.ensures c.if-not-whole.false-raw c.load.ensures c.mix_order.ensures

@@ -1,9 +1,6 @@
--- `replay_main::replay` goes forward by what each case reads, within the input. Assumes nothing.
-use Rattle.std.proofs.Common.{◌≡◌, ◌-◌, ◌≤◌, length}
+-- `replay_main::replay` goes forward by what each case reads. Assumes nothing.
+use Rattle.std.proofs.Common.{length}
 use Rattle.replay_main.proofs.replay.Given as goal
 
-abbrev pub invariant-loop-at : goal.invariant-loop-at
-invariant-loop-at g l = (l.at ≤ length l.d) × (length l.input ≡ length l.initial.input) × (length l.out ≡ length l.initial.out)
-
-abbrev pub decreases-loop-at : goal.decreases-loop-at
-decreases-loop-at g l = length l.d - l.at
+abbrev pub decreases-loop-read : goal.decreases-loop-read
+decreases-loop-read g l = length l.left

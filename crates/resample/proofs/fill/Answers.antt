@@ -3,4 +3,4 @@ use Rattle.std.proofs.Common.{T, sym, subst, rules}
 use Rattle.resample.proofs.fill.Goals as goal
 
 pub fill_in_step-requires : goal.fill_in_step-requires
-fill_in_step-requires c = record { fact_1 = c.in_step.ensures (subst T (sym c.if-in_step.true) tt); fact_2 = search rules }
+fill_in_step-requires c = record { in_step = c.in_step.ensures (subst T (sym c.if-in_step.true) tt); room = search rules }

@@ -13,7 +13,7 @@ unfolding sample_at
 loop-k-preserved c =
     let xs = c.args.input.now in
     more _ _ _ _ _ _ _ _ (omega arith) (omega arith) c.loop-k.invariant
-    (c.sample-v.ensures ∙ ap (λ (at : Float). sample_from xs at (index_at xs at)) c.place-pos.ensures)
+    (c.sample.ensures ∙ ap (λ (at : Float). sample_from xs at (index_at xs at)) c.place-pos.ensures)
 
 pub returns : goal.returns
 unfolding next_of

@@ -12,9 +12,9 @@ pub loop-k-preserved : goal.loop-k-preserved
 unfolding of_bits
 loop-k-preserved c =
     more _ _ _ _ _ _ _ _ (omega arith) (omega arith) c.loop-k.invariant
-    (c.interpolate.ensures ∙ sym (in_step_sample _ _ _ _ c.requires.fact_1 c.loop-k.k (omega arith)))
+    (c.interpolate.ensures ∙ sym (in_step_sample _ _ _ _ c.requires.in_step c.loop-k.k (omega arith)))
 
 pub returns : goal.returns
 unfolding of_bits
 returns c =
-    (in_step_next c.args.input.now _ _ _ c.requires.fact_1, whole _ _ _ _ _ _ _ (omega arith) c.loop-k.invariant)
+    (in_step_next c.args.input.now _ _ _ c.requires.in_step, whole _ _ _ _ _ _ _ (omega arith) c.loop-k.invariant)

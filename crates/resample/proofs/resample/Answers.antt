@@ -14,17 +14,16 @@ over left input points out ratio fraction count e h = h ∙ ap (λ (ps : List Fl
 
 pub returns-then-input-lt4 : goal.returns-then-input-lt4
 returns-then-input-lt4 c =
-    let a = c.args in
-    let xs = a.input.now in (
+    let xs = c.args.input.now in (
       c.fill.ensures.0,
       over _ xs _ _ _ _ _
           (ap (λ (d : Float). get_or xs 0 nan ∷ get_or xs 1 nan ∷ get_or xs 2 nan ∷ d ∷ []) c.fourth.ensures ∙ sym (points_short xs c.if-input-lt4.true))
           c.fill.ensures.1,
     )
 
-pub returns : goal.returns
-returns c =
+pub returns-else-input-lt4 : goal.returns-else-input-lt4
+returns-else-input-lt4 c =
     let xs = c.args.input.now in (
-      c.fill-2.ensures.0,
-      over _ xs _ _ _ _ _ (sym (points_long xs c.if-input-lt4.false)) c.fill-2.ensures.1,
+      c.fill-else-input-lt4.ensures.0,
+      over _ xs _ _ _ _ _ (sym (points_long xs c.if-input-lt4.false)) c.fill-else-input-lt4.ensures.1,
     )

@@ -18,4 +18,4 @@ steps points place whole t r n i b d e f g = cc
 
 pub returns : goal.returns
 returns c =
-    steps _ _ _ _ _ _ _ c.requires.2 c.least-i.ensures c.as_f32.ensures c.at_most_one-t.ensures c.interpolate.ensures
+    steps _ _ _ _ _ _ _ c.requires.2 c.min-i.ensures c.as_f32.ensures c.at_most_one-t.ensures c.interpolate.ensures

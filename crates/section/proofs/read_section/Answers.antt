@@ -9,12 +9,12 @@ returns c =
     let first = c.new-r.ensures in
     let behind = c.moved.ensures in
     let block = behind.0 ∙ first.0 in
-    let n = c.field-splitter_count.result in
-    let m = c.field-destination_count.result in (
+    let n = c.field.result in
+    let m = c.field-2.result in (
       c.records.ensures.0
           ∙ (λ i. records_from c.args.ns c.args.nd (block i).now (behind.1 i) n m c.args.words.now c.args.floats.now)
           ∙ records_read c.args.ns c.args.nd c.args.d.now c.args.words.now c.args.floats.now
-          (c.field-splitter_count.ensures ∙ (λ i. field_at 4 (first.0 i).now (first.1 i + 4)))
-          (c.field-destination_count.ensures ∙ (λ i. field_at 4 (first.0 i).now (first.1 i + 8))),
+          (c.field.ensures ∙ (λ i. field_at 4 (first.0 i).now (first.1 i + 4)))
+          (c.field-2.ensures ∙ (λ i. field_at 4 (first.0 i).now (first.1 i + 8))),
       c.records.ensures.1,
     )

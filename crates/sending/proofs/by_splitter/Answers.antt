@@ -4,8 +4,8 @@ use Rattle.sending.specs.Routes.{by_splitter_back}
 use Rattle.sending.proofs.by_splitter.Goals as goal
 
 pub by_splitter-requires : goal.by_splitter-requires
-by_splitter-requires c = record { fact_1 = c.requires.fact_1; fact_2 = c.requires.fact_2; fact_3 = c.requires.fact_3; fact_4 = length_lent _ _ _ c.requires.fact_4 }
+by_splitter-requires c = length_lent _ _ _ c.requires
 
 pub returns : goal.returns
 returns c =
-    by_splitter_back c.args.nd c.args.b c.args.floats.now c.args.buffers.now c.requires.fact_4 _ _ _ _ _ _ _ _ c.by_splitter.ensures
+    by_splitter_back c.args.desk.now.lists.nd c.args.b c.args.floats.now c.args.buffers.now c.requires _ _ _ _ _ _ _ _ c.by_splitter.ensures

@@ -7,21 +7,6 @@ use Rattle.sends.proofs.send_scaled.Goals as goal
 pub loop-j-init : goal.loop-j-init
 loop-j-init c = spread_begin _ _ _ _ _ _ _
 
-pub bounds-volumes-j : goal.bounds-volumes-j
-bounds-volumes-j c = omega arith
-
-pub overflow_add-offset : goal.overflow_add-offset
-overflow_add-offset c = omega arith
-
-pub mix_into-requires : goal.mix_into-requires
-mix_into-requires c = omega arith
-
-pub overflow_add-j : goal.overflow_add-j
-overflow_add-j c = omega arith
-
-pub loop-j-smaller : goal.loop-j-smaller
-loop-j-smaller c = omega arith
-
 pub loop-j-preserved : goal.loop-j-preserved
 loop-j-preserved c = spread_more c.loop-j.invariant (omega arith) refl refl c.mix_into.ensures
 

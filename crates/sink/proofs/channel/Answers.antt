@@ -24,9 +24,9 @@ pub returns-then-end-buffers : goal.returns-then-end-buffers
 unfolding row_or
 returns-then-end-buffers c = simp (le-leb _ _ c.if-end-buffers.true) (part_cut _ _ _)
 
-pub slice_bounds-result-end-2 : goal.slice_bounds-result-end-2
-slice_bounds-result-end-2 c = sym (length-take-le c.args.n c.args.silent.now c.requires.2)
+pub slice_bounds-result-end-else-end-buffers : goal.slice_bounds-result-end-else-end-buffers
+slice_bounds-result-end-else-end-buffers c = sym (length-take-le c.args.n c.args.silent.now c.requires.2)
 
-pub returns : goal.returns
+pub returns-else-end-buffers : goal.returns-else-end-buffers
 unfolding row_or
-returns c = simp (lt-leb _ _ c.if-end-buffers.false)
+returns-else-end-buffers c = simp (lt-leb _ _ c.if-end-buffers.false)

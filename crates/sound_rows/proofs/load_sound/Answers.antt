@@ -9,6 +9,6 @@ use Rattle.sound_rows.proofs.load_sound.Goals as goal
 pub returns : goal.returns
 unfolding sound_of
 returns c =
-    let x = c.signed16-history0 in
-    let y = c.signed16-history1 in
-    λ i. sound_from (get_or c.args.contexts.now 0 0) ((to_z-of_z {w = w16} (record { sfits = x.type_inv }) ∙ x.ensures) i) ((to_z-of_z {w = w16} (record { sfits = y.type_inv }) ∙ y.ensures) i) (c.copy_out_f32.ensures i)
+    let x = c.cast_signed in
+    let y = c.cast_signed-2 in
+    λ i. sound_from (get_or c.args.contexts.now 0 0) ((to_z-of_z {w = w16} (record { sfits = x.type_inv }) ∙ x.ensures) i) ((to_z-of_z {w = w16} (record { sfits = y.type_inv }) ∙ y.ensures) i) (c.copy_out.ensures i)

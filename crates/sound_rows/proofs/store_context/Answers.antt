@@ -12,7 +12,7 @@ use Rattle.sound_rows.proofs.store_context.Goals as goal
 pub returns : goal.returns
 unfolding words_of_context
 returns c =
-    let y = c.bits16-history1 in
-    let x = c.bits16-history0 in
-    c.copy_in_u16.ensures
+    let y = c.cast_unsigned-2 in
+    let x = c.cast_unsigned in
+    c.copy_in.ensures
     ∙ ap (put c.args.contexts.now c.args.at) (λ i. c.args.c.pred_scale ∷ (x.ensures ∙ ap (of_z w16) (to_z-of_z {w = w16} {z = c.args.c.history0} (record { sfits = omega arith }))) i ∷ (y.ensures ∙ ap (of_z w16) (to_z-of_z {w = w16} {z = c.args.c.history1} (record { sfits = omega arith }))) i ∷ [])

@@ -10,7 +10,7 @@ load_voice_at-v-requires c = position_inside c.requires.allowed c.requires.sized
 
 pub take_fresh-requires : goal.take_fresh-requires
 take_fresh-requires c =
-    let y = loaded_playing c.load_voice_at-v.ensures c.requires.playing in record { fact_1 = y.ids; fact_2 = (y.channels, c.requires.sized.floats) }
+    let y = loaded_playing c.load_voice_at-v.ensures c.requires.playing in record { ids = y.ids; room = (y.channels, c.requires.sized.floats) }
 
 pub begin-b-requires : goal.begin-b-requires
 begin-b-requires c =
@@ -18,13 +18,13 @@ begin-b-requires c =
 
 pub store_prepared-requires : goal.store_prepared-requires
 store_prepared-requires c =
-    let z = taken_sized c.requires.sized (loaded_playing c.load_voice_at-v.ensures c.requires.playing) c.take_fresh.ensures in record { fact_1 = position_inside c.requires.allowed z c.requires.inside; fact_2 = sound_inside c.requires.allowed z c.requires.inside }
-
-pub returns-then-takes_part : goal.returns-then-takes_part
-returns-then-takes_part c =
-    begun_part c.args.p c.args.k (state_of c.args.words.now c.args.longs.now c.args.floats.now c.args.contexts.now c.args.history.now) c.load_voice_at-v.ensures c.takes_part.ensures
-    c.if-takes_part.true c.take_fresh.ensures c.begin-b.ensures c.store_prepared.ensures
+    let z = taken_sized c.requires.sized (loaded_playing c.load_voice_at-v.ensures c.requires.playing) c.take_fresh.ensures in record { position = position_inside c.requires.allowed z c.requires.inside; sound = sound_inside c.requires.allowed z c.requires.inside }
 
 pub returns : goal.returns
 returns c =
-    begun_none c.args.p c.args.k (state_of c.args.words.now c.args.longs.now c.args.floats.now c.args.contexts.now c.args.history.now) c.load_voice_at-v.ensures c.takes_part.ensures c.if-takes_part.false
+    begun_part c.args.p c.args.k (state_of c.args.words.now c.args.longs.now c.args.floats.now c.args.contexts.now c.args.history.now) c.load_voice_at-v.ensures c.takes_part.ensures
+    c.if-not-takes_part.false c.take_fresh.ensures c.begin-b.ensures c.store_prepared.ensures
+
+pub returns-then-not-takes_part : goal.returns-then-not-takes_part
+returns-then-not-takes_part c =
+    begun_none c.args.p c.args.k (state_of c.args.words.now c.args.longs.now c.args.floats.now c.args.contexts.now c.args.history.now) c.load_voice_at-v.ensures c.takes_part.ensures c.if-not-takes_part.true

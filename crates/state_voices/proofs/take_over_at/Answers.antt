@@ -6,4 +6,4 @@ use Rattle.state_voices.proofs.take_over_at.Goals as goal
 
 pub returns : goal.returns
 returns c =
-    taken_back c.requires.fact_1 c.args.channels (c.args.n * 4) c.args.floats.now (omega arith) (omega arith) c.take_over.ensures
+    taken_back c.requires.ids c.args.channels (c.args.n * 4) c.args.floats.now (omega arith) (omega arith) c.take_over.ensures

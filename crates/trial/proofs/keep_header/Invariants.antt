@@ -1,4 +1,3 @@
-use Prim.Native.Nat.{◌-◌}
 use Rattle.trial.specs.Trial.{error_of}
 use Rattle.trial.proofs.Keeping.{Keeping}
 use Rattle.trial.proofs.keep_header.Given as goal
@@ -6,6 +5,3 @@ use Rattle.trial.proofs.keep_header.Given as goal
 abbrev pub invariant-loop-b : goal.invariant-loop-b
 invariant-loop-b l =
     Keeping (error_of l.coefficients l.samples l.h0 l.h1) l.above l.kept l.b
-
-abbrev pub decreases-loop-b : goal.decreases-loop-b
-decreases-loop-b l = 128 - l.b

@@ -34,13 +34,13 @@ module _ (c : Start) where
   least : (sum : ℕ) {whole : ℕ} → sum ≡ min c.args.limit whole → whole ≡ total → sum ≡ min c.args.limit total
   least sum e n = e ∙ (λ i. min c.args.limit (n i))
 
-pub loop-i-init : goal.loop-i-init
-loop-i-init c = try_begin _ _ _ _ _ _ (fits_again c.ranges.h0) (fits_again c.ranges.h1)
+pub loop-x-init : goal.loop-x-init
+loop-x-init c = try_begin _ _ _ _ _ _ (fits_again c.ranges.h0) (fits_again c.ranges.h1)
 
 pub returns-then-limit-sum : goal.returns-then-limit-sum
 returns-then-limit-sum c = (
-  least (goal.at.returns-then-limit-sum c).Start _ (try_cut _ _ _ _ _ _ _ _ _ _ c.loop-i.invariant _ c.if-limit-sum.true) (named (goal.at.returns-then-limit-sum c).Start),
-  omega (arith, c.if-limit-sum.true, c.loop-i.invariant.most, c.loop-i.invariant.count),
+  least (goal.at.returns-then-limit-sum c).Start _ (try_cut _ _ _ _ _ _ _ _ _ _ c.loop-x.invariant _ c.if-limit-sum.true) (named (goal.at.returns-then-limit-sum c).Start),
+  omega (arith, c.if-limit-sum.true, c.loop-x.invariant.most, c.loop-x.invariant.count),
 )
 
 pub square-sum-requires : goal.square-sum-requires
@@ -48,24 +48,18 @@ square-sum-requires c = c.choose_nibble-next.ensures.small
 
 pub overflow_add-sum : goal.overflow_add-sum
 overflow_add-sum c =
-    let l = c.loop-i.invariant in
+    let l = c.loop-x.invariant in
     record { fits = omega (arith, l.most, l.count, c.square-sum.ensures.1) }
 
-pub loop-i-preserved : goal.loop-i-preserved
-loop-i-preserved c =
+pub loop-x-preserved : goal.loop-x-preserved
+loop-x-preserved c =
     let q = c.square-sum in
-    let sample = to_z-of_z {w = w16} {z = get_or c.args.samples.now c.loop-i.i (pos 0)} (record { sfits = omega arith }) in
-    try_more _ _ _ _ _ _ _ _ _ _ c.loop-i.invariant c.loop-i-test.true _ sample
+    let sample = to_z-of_z {w = w16} {z = get_or c.args.samples.now c.loop-x.x-index (pos 0)} (record { sfits = omega arith }) in
+    try_more _ _ _ _ _ _ _ _ _ _ c.loop-x.invariant c.loop-x-test.true _ sample
     _ _ _ c.choose_nibble-next.ensures _ q.ensures.0 _ (to_z-of_z (chosen_fits c.choose_nibble-next.ensures)) q.ensures.1
-
-pub returns-then-limit-sum-2 : goal.returns-then-limit-sum-2
-returns-then-limit-sum-2 c = (
-  least (goal.at.returns-then-limit-sum-2 c).Start _ (try_cut _ _ _ _ _ _ _ _ _ _ c.loop-i.invariant _ c.if-limit-sum-2.true) (named (goal.at.returns-then-limit-sum-2 c).Start),
-  omega (arith, c.if-limit-sum-2.true, c.loop-i.invariant.most, c.loop-i.invariant.count),
-)
 
 pub returns : goal.returns
 returns c = (
-  least (goal.at.returns c).Start _ (try_end _ _ _ _ _ _ _ _ _ _ c.loop-i.invariant _ c.loop-i-test.false c.if-limit-sum-2.false) (named (goal.at.returns c).Start),
-  omega (arith, c.loop-i.invariant.most, c.loop-i.invariant.count),
+  c.min.ensures ∙ least (goal.at.returns c).Start _ (try_end _ _ _ _ _ _ _ _ _ _ c.loop-x.invariant c.args.limit (omega arith)) (named (goal.at.returns c).Start),
+  omega (arith, c.min.ensures, c.loop-x.invariant.most, c.loop-x.invariant.count),
 )

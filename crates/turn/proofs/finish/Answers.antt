@@ -5,4 +5,4 @@ use Rattle.turn.proofs.finish.Goals as goal
 
 pub returns : goal.returns
 returns c =
-    λ i. let w = c.with_queue-w.ensures i in with w.fresh c.args.previous (queue_of w) c.args.fraction w
+    λ i. let w = c.with_queue.ensures i in with w.fresh c.args.previous (queue_of w) c.args.fraction w

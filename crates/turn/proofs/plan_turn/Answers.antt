@@ -22,4 +22,4 @@ returns c =
     let r = render_over c.args.r c.args.ranges.now in
     turn_made c.args.v r c.ratio-ratio.ensures c.needed-needed.ensures c.queue_of.ensures
     (c.source_of.ensures c.args.ranges.now) c.plan_fetch-plan.ensures c.next_fraction-fraction.ensures
-    c.previous_of.ensures c.finish-voice.ensures
+    c.previous_of.ensures c.finish.ensures

@@ -7,6 +7,6 @@ pub returns-then-has_destination : goal.returns-then-has_destination
 unfolding previous_of
 returns-then-has_destination c = rw (sym c.has_destination.ensures ∙ c.if-has_destination.true)
 
-pub returns : goal.returns
+pub returns-else-has_destination : goal.returns-else-has_destination
 unfolding previous_of
-returns c = rw (sym c.has_destination.ensures ∙ c.if-has_destination.false)
+returns-else-has_destination c = rw (sym c.has_destination.ensures ∙ c.if-has_destination.false)

@@ -6,6 +6,6 @@ pub returns-then-v : goal.returns-then-v
 unfolding takes_part
 returns-then-v c = rw c.if-v.true
 
-pub returns : goal.returns
+pub returns-else-v : goal.returns-else-v
 unfolding takes_part
-returns c = rw c.if-v.false
+returns-else-v c = rw c.if-v.false

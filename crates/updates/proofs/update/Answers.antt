@@ -2,6 +2,6 @@
 use Rattle.updates.specs.Update.{update_reply}
 use Rattle.updates.proofs.update.Goals as goal
 
-pub returns : goal.returns
+pub returns-clause-reply_after : goal.returns-clause-reply_after
 unfolding update_reply
-returns c = record { history_after = c.update_state.ensures; reply_after = c.write_reply.ensures }
+returns-clause-reply_after c = c.write_reply.ensures

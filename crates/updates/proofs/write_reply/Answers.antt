@@ -12,4 +12,5 @@ returns c =
     c.write_reply.ensures
     ∙ (λ i.
     put c.args.reply.now 0
-    (reply_of c.args.p c.args.expected c.args.input.now (get_or c.args.longs.now 0 0) (part_cut c.args.words.now 10 (c.args.p.voices * 58) i) (part_cut c.args.longs.now 1 (c.args.p.voices * 14) i)))
+    (reply_of c.args.p c.args.expected c.args.input.now (get_or c.args.s.now.longs.now 0 0)
+    (part_cut c.args.s.now.words.now 10 (c.args.p.voices * 58) i) (part_cut c.args.s.now.longs.now 1 (c.args.p.voices * 14) i)))

@@ -7,6 +7,6 @@ pub returns-then-mix_id-eq2147483647 : goal.returns-then-mix_id-eq2147483647
 returns-then-mix_id-eq2147483647 c =
     sends_by_splitter _ _ _ _ _ _ _ _ _ _ _ (sent_of _ _ _) c.if-mix_id-eq2147483647.true c.by_splitter.ensures
 
-pub returns : goal.returns
-returns c =
+pub returns-else-mix_id-eq2147483647 : goal.returns-else-mix_id-eq2147483647
+returns-else-mix_id-eq2147483647 c =
     sends_to_mix _ _ _ _ _ _ _ _ _ _ _ (sent_of _ _ _) c.if-mix_id-eq2147483647.false c.to_mix.ensures

@@ -7,6 +7,6 @@ pub returns-then-record_used : goal.returns-then-record_used
 returns-then-record_used c =
     step_used _ _ _ _ _ c.section-p.ensures c.record_used.ensures c.if-record_used.true c.update_used.ensures
 
-pub returns : goal.returns
+pub returns-else-record_used : goal.returns-else-record_used
 unfolding unused_rows
-returns c = step_unused _ _ _ _ _ c.section-p.ensures c.record_used.ensures c.if-record_used.false
+returns-else-record_used c = step_unused _ _ _ _ _ c.section-p.ensures c.record_used.ensures c.if-record_used.false

@@ -3,10 +3,10 @@ use borrow.Author.Tests.{le-leb, lt-leb}
 use Rattle.whole.specs.Whole.{whole_of}
 use Rattle.whole.proofs.whole.Goals as goal
 
-pub returns-then-words-lt10 : goal.returns-then-words-lt10
+pub returns-then-words-ge10 : goal.returns-then-words-ge10
 unfolding whole_of
-returns-then-words-lt10 c = rw (lt-leb _ _ c.if-words-lt10.true)
+returns-then-words-ge10 c = rw (le-leb _ _ c.if-words-ge10.true) (rw c.load.ensures at c.whole_by.ensures)
 
-pub returns : goal.returns
+pub returns-else-words-ge10 : goal.returns-else-words-ge10
 unfolding whole_of
-returns c = rw (le-leb _ _ c.if-words-lt10.false) (rw c.load-p.ensures at c.whole_by.ensures)
+returns-else-words-ge10 c = rw (lt-leb _ _ c.if-words-ge10.false)

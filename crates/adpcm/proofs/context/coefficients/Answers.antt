@@ -22,8 +22,8 @@ unfolding first_coefficients
 loop-k-preserved c =
     let l = c.loop-k in
     let d = c.args.d.now in
-    let v = to_z w16 (of_z w16 c.signed16.result) in
-    let e : v ≡ to_z w16 (field_at 2 d (l.k * 2)) = back w16 c.signed16.result c.signed16.type_inv ∙ c.signed16.ensures ∙ ap (to_z w16) c.u16_at.ensures in
+    let v = to_z w16 (of_z w16 c.cast_signed.result) in
+    let e : v ≡ to_z w16 (field_at 2 d (l.k * 2)) = back w16 c.cast_signed.result c.cast_signed.type_inv ∙ c.cast_signed.ensures ∙ ap (to_z w16) c.u16_at.ensures in
     let h : l.k < length l.c = omega arith in (
       omega arith,
       length-set l.c l.k v ∙ l.invariant.1,

@@ -19,8 +19,5 @@ pub adpcm_size_samples-requires : goal.adpcm_size_samples-requires
 adpcm_size_samples-requires c =
     omega (arith, c.plus-end.ensures, c.adpcm_nibble_byte.ensures, nibble_le c.args.start.0)
 
-pub returns-then-left-want : goal.returns-then-left-want
-returns-then-left-want c = omega (arith, left (goal.at.returns-then-left-want c).After-past-left, count_held c.args.bytes c.args.start.0 c.args.want)
-
-pub returns-else-left-want : goal.returns-else-left-want
-returns-else-left-want c = omega (arith, left (goal.at.returns-else-left-want c).After-past-left, count_held c.args.bytes c.args.start.0 c.args.want)
+pub returns : goal.returns
+returns c = omega (arith, left (goal.at.returns c).After-past-left, count_held c.args.bytes c.args.start.0 c.args.want)

@@ -60,21 +60,21 @@ pub take_one-requires : goal.take_one-requires
 take_one-requires c =
     (omega (arith, c.plus-m.ensures, c.requires, c.well_formed, c.loop-done.invariant.size), from_base (goal.at.take_one-requires c).After-plus-m)
 
-pub returns-in-Short : goal.returns-in-Short
-returns-in-Short c =
-    subst (λ (b : ℕ). Decodes (run_from c.args.«data».now b c.args.coefficients.now c.args.count c.args.start.0 c.args.ctx) c.args.out.now c.loop-done.out c.loop-done.done c.in-Short.y)
+pub returns-in-Err : goal.returns-in-Err
+returns-in-Err c =
+    subst (λ (b : ℕ). Decodes (run_from c.args.«data».now b c.args.coefficients.now c.args.count c.args.start.0 c.args.ctx) c.args.out.now c.loop-done.out c.loop-done.done c.in-Err.y)
     c.adpcm_nibble_byte-base.ensures
-    (cut _ _ _ _ _ _ _ _ c.loop-done.x _ _ (omega arith) (omega arith) c.loop-done.invariant (took (goal.at.returns-in-Short c).After-take_one ∙ c.in-Short.is))
+    (cut _ _ _ _ _ _ _ _ c.loop-done.x _ _ (omega arith) (omega arith) c.loop-done.invariant (took (goal.at.returns-in-Err c).After-take_one ∙ c.in-Err.is))
 
-pub offset_bounds-out-done-in-Got : goal.offset_bounds-out-done-in-Got
-offset_bounds-out-done-in-Got c =
+pub offset_bounds-out-done-in-Ok : goal.offset_bounds-out-done-in-Ok
+offset_bounds-out-done-in-Ok c =
     omega (arith, c.loop-done.invariant.size, c.requires, c.well_formed)
 
 pub loop-done-preserved : goal.loop-done-preserved
 loop-done-preserved c =
-    let y = c.in-Got.y in
-    rw (back w16 y.history0 (omega arith))
-    (more _ _ _ _ _ _ _ _ c.loop-done.x y _ c.requires.1 c.loop-done-test.true c.loop-done.invariant (took (goal.at.loop-done-preserved c).After-take_one ∙ c.in-Got.is))
+    let y = c.in-Ok.y in
+    rw (c.from.ensures, back w16 y.history0 (omega arith))
+    (more _ _ _ _ _ _ _ _ c.loop-done.x y _ c.requires.1 c.loop-done-test.true c.loop-done.invariant (took (goal.at.loop-done-preserved c).After-take_one ∙ c.in-Ok.is))
 
 pub returns : goal.returns
 returns c =

@@ -45,17 +45,13 @@ returns-then-data-at c =
     let h : length (s p) ≤ at p = rw (place p) at c.if-data-at.true in
     simp (first p c.if-starts_frame.true, le-leb _ _ h)
 
-pub overflow_cast-read : goal.overflow_cast-read
-overflow_cast-read c =
-    omega (arith, c.type_inv.«data» c.index_from-at.result)
-
 pub returns-else-data-at : goal.returns-else-data-at
 unfolding took_of
 returns-else-data-at c =
     let p = (goal.at.returns-else-data-at c).After-starts_frame in
     let h : at p < length (s p) = rw (place p) at c.if-data-at.false in
     c.take_value.ensures
-    ∙ (λ i. value_of (s p) (place p i + 1) true (k p) (record { pred_scale = get_or (s p) (place p i) 0; history0 = back w16 (x p).history0 (omega arith) i; history1 = back w16 (x p).history1 (omega arith) i }))
+    ∙ (λ i. value_of (s p) (place p i + 1) true (k p) (record { pred_scale = (c.from.ensures ∙ (λ j. get_or (s p) (place p j) 0)) i; history0 = back w16 (x p).history0 (omega arith) i; history1 = back w16 (x p).history1 (omega arith) i }))
     ∙ simp (first p c.if-starts_frame.true, lt-leb _ _ h)
 
 pub returns-else-starts_frame : goal.returns-else-starts_frame

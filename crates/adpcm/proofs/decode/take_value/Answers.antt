@@ -12,7 +12,7 @@ use mir.Val.{to_z, of_z}
 use Rattle.adpcm.specs.Step.{step_of}
 use Rattle.adpcm.specs.Decode.{value_of, half_of, pair_of, after}
 use Rattle.adpcm.specs.declared.context.AdpcmContext.{AdpcmContext}
-use Rattle.adpcm.specs.declared.decode.Took.TheVariants.{Got}
+use Rattle.std.specs.Prelude.{Ok}
 use Rattle.adpcm.proofs.Ints.{back}
 use Rattle.adpcm.proofs.decode.take_value.Goals as goal
 use Rattle.adpcm.proofs.decode.take_value.Goals.{After-step-s}
@@ -37,11 +37,11 @@ module _ (c : After-step-s) where
   b1 : to_z w16 (of_z w16 x.history1) ≡ x.history1
   b1 = back w16 x.history1 (omega arith)
 
-  kc : to_z w16 (of_z w16 (get_or k (pair_of x.pred_scale) (pos 0))) ≡ get_or k (pair_of x.pred_scale) (pos 0)
-  kc = back w16 _ (omega arith)
+  kc : to_z w16 (of_z w16 c.pair-c.result.0) ≡ get_or k (pair_of x.pred_scale) (pos 0)
+  kc = back w16 c.pair-c.result.0 (omega arith) ∙ c.pair-c.ensures.first
 
-  kd : to_z w16 (of_z w16 (get_or k (pair_of x.pred_scale + 1) (pos 0))) ≡ get_or k (pair_of x.pred_scale + 1) (pos 0)
-  kd = back w16 _ (omega arith)
+  kd : to_z w16 (of_z w16 c.pair-c.result.1) ≡ get_or k (pair_of x.pred_scale + 1) (pos 0)
+  kd = back w16 c.pair-c.result.1 (omega arith) ∙ c.pair-c.ensures.second
 
   sample : c.step-s.result ≡ (after v k x).history0
   sample = c.step-s.ensures ∙ (λ i. step_of (c.half-v.ensures i) (x.pred_scale % 16) (kc i) (kd i) (b0 i) (b1 i))
@@ -59,5 +59,6 @@ step-s-requires c =
 pub returns : goal.returns
 unfolding value_of
 returns c =
-    rw (b0 c, back w16 c.step-s.result c.step-s.type_inv, lt-leb _ _ c.if-data-at.false)
-    (λ i. Got (record { pred_scale = (x c).pred_scale; history0 = sample c i; history1 = (x c).history0 }))
+    let p = (goal.at.returns c).After-step-s in
+    rw (b0 p, back w16 c.step-s.result c.step-s.type_inv, lt-leb _ _ c.if-data-at.false)
+    (λ i. Ok (record { pred_scale = (x p).pred_scale; history0 = sample p i; history1 = (x p).history0 }))

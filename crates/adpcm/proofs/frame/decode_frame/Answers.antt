@@ -33,11 +33,11 @@ module _ (c : After-step-low) where
   b1 : to_z w16 (of_z w16 x.history1) ≡ x.history1
   b1 = back w16 x.history1 (c.loop-i.invariant.3 0).fits1.sfits
 
-  kc : to_z w16 (of_z w16 (get_or k (pair_of (get_or f 0 0)) (pos 0))) ≡ get_or k (pair_of (get_or f 0 0)) (pos 0)
-  kc = back w16 _ (omega arith)
+  kc : to_z w16 (of_z w16 c.pair-c.result.0) ≡ get_or k (pair_of (get_or f 0 0)) (pos 0)
+  kc = back w16 c.pair-c.result.0 (omega arith) ∙ c.pair-c.ensures.first ∙ (λ i. get_or k (pair_of (c.from-header.ensures i)) (pos 0))
 
-  kd : to_z w16 (of_z w16 (get_or k (pair_of (get_or f 0 0) + 1) (pos 0))) ≡ get_or k (pair_of (get_or f 0 0) + 1) (pos 0)
-  kd = back w16 _ (omega arith)
+  kd : to_z w16 (of_z w16 c.pair-c.result.1) ≡ get_or k (pair_of (get_or f 0 0) + 1) (pos 0)
+  kd = back w16 c.pair-c.result.1 (omega arith) ∙ c.pair-c.ensures.second ∙ (λ i. get_or k (pair_of (c.from-header.ensures i) + 1) (pos 0))
 
   -- the byte
   abbrev v : ℕ
@@ -50,10 +50,10 @@ module _ (c : After-step-low) where
   b = to_z w16 (of_z w16 c.step-low.result)
 
   high_is : next f k (v / 16) x.history0 x.history1 ≡ a
-  high_is = sym (back w16 c.step-high.result c.step-high.type_inv ∙ c.step-high.ensures ∙ (λ i. step_of (v / 16) (get_or f 0 0 % 16) (kc i) (kd i) (b0 i) (b1 i)))
+  high_is = sym (back w16 c.step-high.result c.step-high.type_inv ∙ c.step-high.ensures ∙ (λ i. step_of (v / 16) (c.from-header.ensures i % 16) (kc i) (kd i) (b0 i) (b1 i)))
 
   low_is : next f k (v % 16) a x.history0 ≡ b
-  low_is = sym (back w16 c.step-low.result c.step-low.type_inv ∙ c.step-low.ensures ∙ (λ i. step_of (v % 16) (get_or f 0 0 % 16) (kc i) (kd i) a (b0 i)))
+  low_is = sym (back w16 c.step-low.result c.step-low.type_inv ∙ c.step-low.ensures ∙ (λ i. step_of (v % 16) (c.from-header.ensures i % 16) (kc i) (kd i) a (b0 i)))
 
 pub loop-i-init : goal.loop-i-init
 loop-i-init c =
@@ -76,7 +76,7 @@ loop-i-preserved c =
       omega arith,
       length-set (set o (2 * i) _) (2 * i + 1) _ ∙ length-set o (2 * i) _ ∙ c.loop-i.invariant.1,
       refl,
-      λ n. framed_more _ _ _ _ c.requires.0 c.requires.1 o _ _ i (a s) (b s) (omega arith) (c.loop-i.invariant.3 n) (high_is s) (low_is s),
+      λ n. rw (c.from.ensures, c.from-in-loop-i.ensures) (framed_more _ _ _ _ c.requires.0 c.requires.1 o _ _ i (a s) (b s) (omega arith) (c.loop-i.invariant.3 n) (high_is s) (low_is s)),
     )
 
 pub returns : goal.returns
@@ -91,4 +91,4 @@ returns c =
     subst (λ (y : AdpcmContext). Decodes (run_from c.args.frame.now 0 c.args.coefficients.now 14 0 y) c.args.out.now c.loop-i.out 14 (context (get_or c.args.frame.now 0 0) x.history0 x.history1))
     (λ i. context b (b0 i) (b1 i))
     (framed_end _ _ _ _ c.requires.0 c.requires.1 _ _ _ c.loop-i.i (omega arith) (c.loop-i.invariant.3 b)) in
-    subst (λ (h : ℕ). Decodes (run_from c.args.frame.now 0 c.args.coefficients.now 14 0 e) c.args.out.now c.loop-i.out 14 (context h x.history0 x.history1)) (sym c.loop-i.invariant.2) d
+    subst (λ (h : ℕ). Decodes (run_from c.args.frame.now 0 c.args.coefficients.now 14 0 e) c.args.out.now c.loop-i.out 14 (context h x.history0 x.history1)) (sym (c.loop-i.invariant.2 ∙ c.from-header.ensures)) d

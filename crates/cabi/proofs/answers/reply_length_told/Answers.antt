@@ -1,13 +1,11 @@
 -- `cabi::answers::reply_length_told` meets its contract. Assumes nothing.
-use mathlib.Core.Path.{ap, sym}
+use Rattle.std.proofs.Common.{ℕ, ap, sym, ◌∙◌}
+use Rattle.calls.specs.Calls.{length_left}
 use Rattle.renderer.specs.Answers.{reply_length_seen}
 use Rattle.cabi.proofs.answers.reply_length_told.Goals as goal
 
-pub returns-in-Length : goal.returns-in-Length
-returns-in-Length c = ap reply_length_seen (sym c.in-Length.is)
+pub returns-in-Ok : goal.returns-in-Ok
+returns-in-Ok c = ap reply_length_seen (sym c.in-Ok.is)
 
-pub returns-in-Samples : goal.returns-in-Samples
-returns-in-Samples c = ap reply_length_seen (sym c.in-Samples.is)
-
-pub returns-in-Counts : goal.returns-in-Counts
-returns-in-Counts c = ap reply_length_seen (sym c.in-Counts.is)
+pub returns-in-Err : goal.returns-in-Err
+returns-in-Err c = ap (λ (n : ℕ). length_left n 0) c.number.ensures ∙ ap reply_length_seen (sym c.in-Err.is)

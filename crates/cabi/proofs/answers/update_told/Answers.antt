@@ -1,13 +1,10 @@
 -- `cabi::answers::update_told` meets its contract. Assumes nothing.
-use mathlib.Core.Path.{ap, sym}
+use Rattle.std.proofs.Common.{ap, sym, ◌∙◌}
 use Rattle.cabi.specs.Answers.{update_told}
 use Rattle.cabi.proofs.answers.update_told.Goals as goal
 
-pub returns-in-Updated : goal.returns-in-Updated
-returns-in-Updated c = ap update_told (sym c.in-Updated.is)
+pub returns-in-Ok : goal.returns-in-Ok
+returns-in-Ok c = ap update_told (sym c.in-Ok.is)
 
-pub returns-in-NotWhole : goal.returns-in-NotWhole
-returns-in-NotWhole c = ap update_told (sym c.in-NotWhole.is)
-
-pub returns-in-ShortReply : goal.returns-in-ShortReply
-returns-in-ShortReply c = ap update_told (sym c.in-ShortReply.is)
+pub returns-in-Err : goal.returns-in-Err
+returns-in-Err c = (λ i. record { number = c.number.ensures i; size = 0 }) ∙ ap update_told (sym c.in-Err.is)

@@ -1,13 +1,16 @@
 -- `cabi::dsp::write_told` meets its contract. Assumes nothing.
-use mathlib.Core.Path.{ap, sym}
+use Prim.Native.Nat.{ℕ}
+use mathlib.Core.Path.{ap, sym, ◌∙◌}
+use Rattle.cabi.specs.declared.dsp.JeqllunaDspWritten.{JeqllunaDspWritten}
 use Rattle.cabi.specs.Dsp.{write_told}
 use Rattle.cabi.proofs.dsp.write_told.Goals as goal
 
-pub returns-in-Written : goal.returns-in-Written
-returns-in-Written c = ap write_told (sym c.in-Written.is)
+refused : ℕ → JeqllunaDspWritten
+refused n = record { number = n; size = 0 }
 
-pub returns-in-Header : goal.returns-in-Header
-returns-in-Header c = ap write_told (sym c.in-Header.is)
+pub returns-in-Ok : goal.returns-in-Ok
+returns-in-Ok c = ap write_told (sym c.in-Ok.is)
 
-pub returns-in-Short : goal.returns-in-Short
-returns-in-Short c = ap write_told (sym c.in-Short.is)
+pub returns-in-Err : goal.returns-in-Err
+unfolding refused
+returns-in-Err c = ap refused c.number.ensures ∙ ap write_told (sym c.in-Err.is)

@@ -7,14 +7,11 @@ use Rattle.desk.proofs.channels.update_channel_resources.Goals as goal
 pub loop-k-init : goal.loop-k-init
 loop-k-init c = turn_begin _ _ _ _ c.requires.0
 
-pub channel_record-requires : goal.channel_record-requires
-channel_record-requires c = (omega arith, omega arith)
-
 pub loop-k-preserved : goal.loop-k-preserved
 loop-k-preserved c =
     turn_more c.loop-k.invariant (omega arith)
-    (step_long c.args.d.now c.args.n c.loop-k.k _ (omega (arith, c.least-count.ensures))) c.channel_record.ensures
+    (step_long c.args.d.now c.args.n c.loop-k.k _ (omega (arith, c.min-k-end.ensures))) c.channel_record.ensures
 
 pub returns : goal.returns
 unfolding channels_of
-returns c = turn_end c.loop-k.invariant (omega arith) c.least-count.ensures
+returns c = turn_end c.loop-k.invariant (omega arith) c.min-k-end.ensures

@@ -1,6 +1,6 @@
 use mathlib.Core.Path.{◌≡◌}
 use mathlib.Core.List.{List}
-use Prim.Native.Nat.{◌-◌, ◌*◌}
+use Prim.Native.Nat.{◌*◌}
 use lib.ListN.{length}
 use lib.Ieee.{Float}
 use Rattle.rows.specs.Loops.{Turning}
@@ -8,7 +8,4 @@ use Rattle.desk.specs.Channels.{channel_step}
 use Rattle.desk.proofs.channels.update_channel_resources.Given as goal
 
 abbrev pub invariant-loop-k : goal.invariant-loop-k
-invariant-loop-k l = Turning (λ (x : List Float). length x ≡ l.n * 48) (channel_step l.d) l.count l.initial.floats l.floats l.k
-
-abbrev pub decreases-loop-k : goal.decreases-loop-k
-decreases-loop-k l = l.count - l.k
+invariant-loop-k l = Turning (λ (x : List Float). length x ≡ l.n * 48) (channel_step l.d) l.k-end l.initial.floats l.floats l.k

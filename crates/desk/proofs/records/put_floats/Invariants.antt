@@ -1,10 +1,6 @@
-use Prim.Native.Nat.{◌-◌}
 use Rattle.rows.specs.Tables.{Tabling}
 use Rattle.desk.specs.Records.{float_at}
 use Rattle.desk.proofs.records.put_floats.Given as goal
 
 abbrev pub invariant-loop-k : goal.invariant-loop-k
 invariant-loop-k l = Tabling l.initial.floats l.to l.n (float_at l.p l.o) l.floats l.k
-
-abbrev pub decreases-loop-k : goal.decreases-loop-k
-decreases-loop-k l = l.n - l.k

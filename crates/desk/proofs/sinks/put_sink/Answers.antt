@@ -8,7 +8,7 @@ returns-then-byte_at-eq1 c =
     device c.args.p.now c.args.k c.args.words.now c.args.floats.now c.requires.0 c.requires.1
     (is_device_lem c.args.p.now c.byte_at.ensures c.if-byte_at-eq1.true) c.put_device.ensures c.put_floats.ensures
 
-pub returns : goal.returns
-returns c =
+pub returns-else-byte_at-eq1 : goal.returns-else-byte_at-eq1
+returns-else-byte_at-eq1 c =
     other c.args.p.now c.args.k c.args.words.now c.args.floats.now c.requires.0 c.requires.1
     (no_device c.args.p.now c.byte_at.ensures c.if-byte_at-eq1.false) (cc) refl

@@ -9,14 +9,11 @@ use Rattle.desk.proofs.sinks.update_sinks.Goals as goal
 pub loop-k-init : goal.loop-k-init
 loop-k-init c = turn_begin _ _ _ _ c.requires
 
-pub sink_record-requires : goal.sink_record-requires
-sink_record-requires c = (omega arith, omega arith, omega arith)
-
 pub loop-k-preserved : goal.loop-k-preserved
 loop-k-preserved c =
-    turn_more c.loop-k.invariant (omega arith) (step_sized c.args.n c.args.d.now c.loop-k.k _ (omega (arith, c.least-count.ensures))) c.sink_record.ensures
+    turn_more c.loop-k.invariant (omega arith) (step_sized c.args.n c.args.d.now c.loop-k.k _ (omega (arith, c.min-k-end.ensures))) c.sink_record.ensures
 
 pub returns : goal.returns
 unfolding sinks_of
 returns c =
-    let e = turn_end c.loop-k.invariant (omega arith) c.least-count.ensures in record { words_after = ap (λ (st : SinkRows). st.words) e; floats_after = ap (λ (st : SinkRows). st.floats) e }
+    let e = turn_end c.loop-k.invariant (omega arith) c.min-k-end.ensures in record { words_after = ap (λ (st : SinkRows). st.words) e; floats_after = ap (λ (st : SinkRows). st.floats) e }

@@ -8,6 +8,6 @@ pub returns-then-dirty : goal.returns-then-dirty
 unfolding mix_id
 returns-then-dirty c = simp c.if-dirty.true (c.positive.ensures ∙ ap positive c.u32_at.ensures)
 
-pub returns : goal.returns
+pub returns-else-dirty : goal.returns-else-dirty
 unfolding mix_id
-returns c = simp c.if-dirty.false
+returns-else-dirty c = simp c.if-dirty.false

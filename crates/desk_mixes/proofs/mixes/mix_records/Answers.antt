@@ -8,14 +8,10 @@ use Rattle.desk_mixes.proofs.mixes.mix_records.Goals as goal
 pub loop-i-init : goal.loop-i-init
 loop-i-init c = turn_begin _ _ _ _ c.requires
 
-pub mix_record-requires : goal.mix_record-requires
-mix_record-requires c =
-    (omega (arith, c.mixes_read-count.ensures), c.loop-i.invariant.kept)
-
 pub loop-i-preserved : goal.loop-i-preserved
 loop-i-preserved c =
     turn_more c.loop-i.invariant (omega arith) (step_sized c.args.n c.args.dirty c.args.d.now c.loop-i.i _) c.mix_record.ensures
 
 pub returns : goal.returns
 unfolding mix_records
-returns c = turn_end c.loop-i.invariant (omega arith) c.mixes_read-count.ensures
+returns c = turn_end c.loop-i.invariant (omega arith) c.mixes_read-i-end.ensures

@@ -8,7 +8,7 @@ returns-then-flag_at c =
     used c.args.p.now c.args.id c.args.words.now c.args.floats.now c.requires.0 c.requires.1
     (sym c.flag_at.ensures ∙ c.if-flag_at.true) c.put_words.ensures c.put_volumes.ensures
 
-pub returns : goal.returns
-returns c =
+pub returns-else-flag_at : goal.returns-else-flag_at
+returns-else-flag_at c =
     unused c.args.p.now c.args.id c.args.words.now c.args.floats.now c.requires.0 c.requires.1
     (sym c.flag_at.ensures ∙ c.if-flag_at.false) refl refl

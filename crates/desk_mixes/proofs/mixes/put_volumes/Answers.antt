@@ -1,12 +1,7 @@
 -- `mixes::put_volumes` meets its contract. Assumes nothing.
-use native.Mathlib.Omega.{arith}
-use lib.ListN.{length-set}
 use Rattle.desk.specs.Records.{float_at}
 use Rattle.desk_mixes.proofs.MixRow.{volumes}
 use Rattle.desk_mixes.proofs.mixes.put_volumes.Goals as goal
-
-pub put_floats-requires : goal.put_floats-requires
-put_floats-requires c = (omega arith, omega arith, simp length-set (omega arith))
 
 pub returns : goal.returns
 unfolding float_at

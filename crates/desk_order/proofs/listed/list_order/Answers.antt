@@ -7,12 +7,12 @@ use Rattle.desk_order.proofs.listed.list_order.Goals as goal
 
 pub slice_bounds-list_order_in-end : goal.slice_bounds-list_order_in-end
 slice_bounds-list_order_in-end c =
-    sym (length-take-le c.args.nm (replicate {A = ℕ} 32 0) c.requires.fact_1.few)
+    sym (length-take-le c.args.desk.now.mixes.n (replicate {A = ℕ} 32 0) c.args.desk.now.mixes.whole.few)
 
 pub slice_bounds-list_order_in-end-2 : goal.slice_bounds-list_order_in-end-2
 slice_bounds-list_order_in-end-2 c =
-    sym (length-take-le c.args.nm (replicate {A = ℕ} 32 0) c.requires.fact_1.few)
+    sym (length-take-le c.args.desk.now.mixes.n (replicate {A = ℕ} 32 0) c.args.desk.now.mixes.whole.few)
 
 pub list_order_in-requires : goal.list_order_in-requires
 list_order_in-requires c =
-    let long = length-take-le c.args.nm (replicate {A = ℕ} 32 0) c.requires.fact_1.few in record { fact_1 = c.requires.fact_1; fact_2 = c.requires.fact_2; fact_3 = (long, long) }
+    let long = length-take-le c.args.desk.now.mixes.n (replicate {A = ℕ} 32 0) c.args.desk.now.mixes.whole.few in (long, long)

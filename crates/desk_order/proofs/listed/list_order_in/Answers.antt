@@ -22,7 +22,7 @@ slice_bounds-listed-end-2 c = let e = c.mix_order-count.ensures in front_long _ 
 
 pub listed-requires : goal.listed-requires
 listed-requires c =
-    few _ _ _ _ _ c.requires.fact_1.few c.mix_order-count.ensures.1
+    few _ _ _ _ _ c.args.desk.now.mixes.whole.few c.mix_order-count.ensures.1
 
 pub returns : goal.returns
 returns c =

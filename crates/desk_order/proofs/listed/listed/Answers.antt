@@ -14,4 +14,4 @@ listing : (xs : List ℕ) {mixes : List ℕ} {n : ℕ} → n ≡ length xs → m
 listing xs l e = λ i. record { count = l i; mixes = e i }
 
 pub returns : goal.returns
-returns c = listing _ (search rules) c.copy_in_u32.ensures
+returns c = listing _ (search rules) c.copy_in.ensures

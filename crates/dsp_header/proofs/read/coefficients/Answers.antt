@@ -12,7 +12,7 @@ loop-k-init c = (refl, fill_begin _ 16 _)
 pub loop-k-preserved : goal.loop-k-preserved
 loop-k-preserved c =
     let l = c.loop-k in
-    let e = signed_is _ _ c.signed16.type_inv c.signed16.ensures c.word.ensures in
+    let e = signed_is _ _ c.cast_signed.type_inv c.cast_signed.ensures c.word.ensures in
     (l.invariant.0, fill_more l.invariant.1 l.invariant.0 (omega arith) e)
 
 pub returns : goal.returns

@@ -1,5 +1,5 @@
 use mathlib.Core.Path.{◌≡◌}
-use Prim.Native.Nat.{ℕ, ◌+◌, ◌-◌, ◌*◌}
+use Prim.Native.Nat.{ℕ, ◌+◌, ◌*◌}
 use lib.ListN.{length}
 use Rattle.rows.proofs.Filling.{Filling}
 use Rattle.dsp_header.specs.Header.{signed_at}
@@ -7,6 +7,3 @@ use Rattle.dsp_header.proofs.read.coefficients.Given as goal
 
 abbrev pub invariant-loop-k : goal.invariant-loop-k
 invariant-loop-k l = (length l.initial.c ≡ 16) × Filling l.initial.c 16 (λ (i : ℕ). signed_at l.d (l.o + i * 2)) l.c l.k
-
-abbrev pub decreases-loop-k : goal.decreases-loop-k
-decreases-loop-k l = 16 - l.k

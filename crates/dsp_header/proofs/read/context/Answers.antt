@@ -16,6 +16,6 @@ made p q r = λ i. context_from (p i) (q i) (r i)
 pub returns : goal.returns
 unfolding context_at
 returns c =
-    made c.word-pred_scale.ensures
-    (signed_is _ _ c.signed16-history0.type_inv c.signed16-history0.ensures c.word.ensures)
-    (signed_is _ _ c.signed16-history1.type_inv c.signed16-history1.ensures c.word-2.ensures)
+    made c.word.ensures
+    (signed_is _ _ c.cast_signed.type_inv c.cast_signed.ensures c.word-2.ensures)
+    (signed_is _ _ c.cast_signed-2.type_inv c.cast_signed-2.ensures c.word-3.ensures)

@@ -7,16 +7,16 @@ unfolding header_of
 returns c =
     λ i.
     record {
-      samples = c.long-samples.ensures i;
-      nibbles = c.long-nibbles.ensures i;
-      rate = c.long-rate.ensures i;
-      loop_flag = c.word-loop_flag.ensures i;
-      format = c.word-format.ensures i;
-      loop_start = c.long-loop_start.ensures i;
-      loop_end = c.long-loop_end.ensures i;
-      address = c.long-address.ensures i;
-      coefficients = c.coefficients-coefficients.ensures i;
-      gain = c.word-gain.ensures i;
-      start_context = c.context-start_context.ensures i;
-      loop_context = c.context-loop_context.ensures i;
+      samples = c.long.ensures i;
+      nibbles = c.long-2.ensures i;
+      rate = c.long-3.ensures i;
+      loop_flag = c.word.ensures i;
+      format = c.word-2.ensures i;
+      loop_start = c.long-4.ensures i;
+      loop_end = c.long-5.ensures i;
+      address = c.long-6.ensures i;
+      coefficients = c.coefficients.ensures i;
+      gain = c.word-3.ensures i;
+      start_context = c.context.ensures i;
+      loop_context = c.context-2.ensures i;
     }

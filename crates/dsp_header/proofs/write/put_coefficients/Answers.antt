@@ -19,15 +19,16 @@ two c k = length_signed (get_or c k (pos 0))
 pub loop-k-init : goal.loop-k-init
 loop-k-init c = join_begin _ _ _ _ _ (omega arith)
 
-pub put_big-requires : goal.put_big-requires
-put_big-requires c =
-    join_room c.loop-k.invariant (two c.args.c) (omega arith) (omega arith)
+pub copy_in-requires : goal.copy_in-requires
+copy_in-requires c =
+    let e : length c.to_be_bytes.result ≡ 2 = ap length c.to_be_bytes.ensures in
+    rw e (join_room c.loop-k.invariant (two c.args.c) (omega arith) (omega arith))
 
 pub loop-k-preserved : goal.loop-k-preserved
 loop-k-preserved c =
-    let e = bits_are (get_or c.args.c c.loop-k.k (pos 0)) (omega arith) c.bits16.ensures in
+    let e = c.to_be_bytes.ensures ∙ bits_are (get_or c.args.c c.loop-k.k (pos 0)) (omega arith) in
     join_step c.loop-k.invariant (two c.args.c) (omega arith) (omega arith)
-    (c.put_big.ensures ∙ ap (put c.loop-k.out (c.args.o + c.loop-k.k * 2)) e)
+    (c.copy_in.ensures ∙ ap (put c.loop-k.out (c.args.o + c.loop-k.k * 2)) e)
 
 pub returns : goal.returns
 unfolding coefficient_bytes

@@ -1,5 +1,5 @@
 use mathlib.Core.List.{List}
-use Prim.Native.Nat.{ℕ, ◌-◌}
+use Prim.Native.Nat.{ℕ}
 use lib.IntN.{ℤ, pos}
 use lib.ListN.{get_or}
 use Rattle.rows.specs.Tables.{Joining}
@@ -11,6 +11,3 @@ bytes_at c k = signed_bytes (get_or c k (pos 0))
 
 abbrev pub invariant-loop-k : goal.invariant-loop-k
 invariant-loop-k l = Joining l.initial.out l.o 16 2 (bytes_at l.c) l.out l.k
-
-abbrev pub decreases-loop-k : goal.decreases-loop-k
-decreases-loop-k l = 16 - l.k

@@ -65,20 +65,20 @@ module _ (q : After-choose_nibble-two) where
       let last = to_z-of_z (chosen_fits (one q.before.before.before.before.before)) in
       chosen_by (s g) sample (to_z-of_z f.c) (to_z-of_z f.d) last (to_z-of_z f.h0) q.choose_nibble-two.ensures
 
-pub pack-byte-requires : goal.pack-byte-requires
-pack-byte-requires c = (chosen_below (one (goal.at.pack-byte-requires c).After-choose_nibble-one), omega arith)
+pub pack-requires : goal.pack-requires
+pack-requires c = (chosen_below (one (goal.at.pack-requires c).After-choose_nibble-one), omega arith)
 
 pub returns-then-samples-i : goal.returns-then-samples-i
 returns-then-samples-i r =
     let e : length (ts (goal.at.returns-then-samples-i r).Start) ≡ suc (i (goal.at.returns-then-samples-i r).Start) = omega arith in
-    packs_by (s (goal.at.returns-then-samples-i r).Start) (c (goal.at.returns-then-samples-i r).Start) (d (goal.at.returns-then-samples-i r).Start) (r.pack-byte.ensures ∙ add-zero _) (to_z-of_z (chosen_fits (one (goal.at.returns-then-samples-i r).After-choose_nibble-one))) (to_z-of_z r.ranges.h0)
+    packs_by (s (goal.at.returns-then-samples-i r).Start) (c (goal.at.returns-then-samples-i r).Start) (d (goal.at.returns-then-samples-i r).Start) (r.pack.ensures ∙ add-zero _) (to_z-of_z (chosen_fits (one (goal.at.returns-then-samples-i r).After-choose_nibble-one))) (to_z-of_z r.ranges.h0)
     (packs_last (s (goal.at.returns-then-samples-i r).Start) (c (goal.at.returns-then-samples-i r).Start) (d (goal.at.returns-then-samples-i r).Start) (ts (goal.at.returns-then-samples-i r).Start) (i (goal.at.returns-then-samples-i r).Start) (h0 (goal.at.returns-then-samples-i r).Start) (h1 (goal.at.returns-then-samples-i r).Start) r.ranges.h0 _ refl _ _ _ (one (goal.at.returns-then-samples-i r).After-choose_nibble-one) e)
 
-pub pack-byte-requires-2 : goal.pack-byte-requires-2
-pack-byte-requires-2 c = (chosen_below (one (goal.at.pack-byte-requires-2 c).After-choose_nibble-one), chosen_below (two (goal.at.pack-byte-requires-2 c).After-choose_nibble-two))
+pub pack-requires-2 : goal.pack-requires-2
+pack-requires-2 c = (chosen_below (one (goal.at.pack-requires-2 c).After-choose_nibble-one), chosen_below (two (goal.at.pack-requires-2 c).After-choose_nibble-two))
 
 pub returns : goal.returns
 returns r =
     let f = g (goal.at.returns r).After-choose_nibble-two in
-    packs_by (s f) (c f) (d f) r.pack-byte-2.ensures (to_z-of_z (chosen_fits (two (goal.at.returns r).After-choose_nibble-two))) (to_z-of_z (chosen_fits (one (goal.at.returns r).After-choose_nibble-one)))
+    packs_by (s f) (c f) (d f) r.pack-2.ensures (to_z-of_z (chosen_fits (two (goal.at.returns r).After-choose_nibble-two))) (to_z-of_z (chosen_fits (one (goal.at.returns r).After-choose_nibble-one)))
     (packs_two (s f) (c f) (d f) (ts f) (i f) (h0 f) (h1 f) r.ranges.h0 _ refl _ _ _ (one (goal.at.returns r).After-choose_nibble-one) _ refl _ _ _ (two (goal.at.returns r).After-choose_nibble-two) (omega arith))

@@ -10,12 +10,12 @@ use Rattle.encoder.proofs.frame.put_nibbles.Goals as goal
 pub loop-j-init : goal.loop-j-init
 loop-j-init c = (c.requires.2, put_begin _ _ _ _ _ _ _ (fits_again c.ranges.h0) (fits_again c.ranges.h1))
 
-pub next_byte-next-requires : goal.next_byte-next-requires
-next_byte-next-requires c = (omega arith, omega (arith, c.loop-j.invariant.0, c.loop-j.invariant.1.size))
+pub next_byte-byte-requires : goal.next_byte-byte-requires
+next_byte-byte-requires c = (omega arith, omega (arith, c.loop-j.invariant.0, c.loop-j.invariant.1.size))
 
 pub loop-j-preserved : goal.loop-j-preserved
 loop-j-preserved c =
-    let packs = packs_by _ _ _ refl (to_z-of_z c.next_byte-next.ensures.fits0) (to_z-of_z c.next_byte-next.ensures.fits1) c.next_byte-next.ensures in (
+    let packs = packs_by _ _ _ refl (to_z-of_z c.next_byte-byte.ensures.fits0) (to_z-of_z c.next_byte-byte.ensures.fits1) c.next_byte-byte.ensures in (
       c.loop-j.invariant.0,
       put_more _ _ _ _ _ _ _ _ _ _ _ c.loop-j.invariant.1 (omega (arith, c.loop-j-test.true, c.loop-j.invariant.1.size)) _ _ _ packs,
     )

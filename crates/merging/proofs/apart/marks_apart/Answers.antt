@@ -1,22 +1,12 @@
 -- `apart::marks_apart` meets its contract: each is tested in turn. Assumes nothing.
-use mathlib.Core.Path.{ap}
-use mathlib.Core.Bool.{not}
-use native.Mathlib.Omega.{arith}
-use Rattle.row_tests.specs.Tests.{pass_begin, pass_more, pass_cut, pass_end}
+use Rattle.std.proofs.Common.{◌≡◌, ℕ, Bool, true, false, not, ◌&&◌, get_or, rules, tests, refl}
+use native.Mathlib.Nat.{sub-zero}
+use Rattle.std.proofs.lemmas.Iterator.{cases_from_all, YieldsList-from_range}
+use Rattle.row_tests.specs.Ranges.{range_all}
 use Rattle.merging.proofs.apart.marks_apart.Goals as goal
 
-pub loop-j-init : goal.loop-j-init
-loop-j-init c = pass_begin _ _
-
-pub returns-then-not-mark_apart : goal.returns-then-not-mark_apart
-returns-then-not-mark_apart c =
-    let l = c.loop-j in
-    pass_cut l.invariant c.loop-j-test.true c.mark_apart.ensures (ap not c.if-not-mark_apart.true)
-
-pub loop-j-preserved : goal.loop-j-preserved
-loop-j-preserved c =
-    let l = c.loop-j in
-    pass_more l.invariant c.loop-j-test.true c.mark_apart.ensures (ap not c.if-not-mark_apart.false)
-
 pub returns : goal.returns
-returns c = pass_end c.loop-j.invariant (omega arith)
+returns c =
+    let p : ℕ → Bool = λ j. not (get_or c.args.a.now j false && get_or c.args.b.now j false) in
+    range_all p c.args.n _ (cases_from_all _ _ _ (λ i. true ≡ p i) (λ i. false ≡ p i) c.all.ensures.ran
+    (YieldsList-from_range 0 c.args.n c.args.n refl (sub-zero c.args.n)) (λ x r k. search (rules, tests)) (λ x r k. search (rules, tests)))

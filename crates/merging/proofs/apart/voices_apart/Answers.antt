@@ -1,25 +1,14 @@
 -- `apart::voices_apart` meets its contract: each is tested in turn. Assumes nothing.
-use mathlib.Core.Path.{ap}
-use mathlib.Core.Bool.{not}
-use native.Mathlib.Omega.{arith}
-use Rattle.row_tests.specs.Tests.{pass_begin, pass_more, pass_cut, pass_end}
-use Rattle.merging.specs.Merge.{voices_apart}
+use Rattle.std.proofs.Common.{◌≡◌, ℕ, Bool, true, false, not, ◌&&◌, rules, refl}
+use native.Mathlib.Nat.{sub-zero}
+use Rattle.std.proofs.lemmas.Iterator.{cases_from_all, YieldsList-from_range}
+use Rattle.row_tests.specs.Ranges.{range_all}
+use Rattle.merging.specs.Merge.{used_at, voices_apart}
 use Rattle.merging.proofs.apart.voices_apart.Goals as goal
-
-pub loop-k-init : goal.loop-k-init
-loop-k-init c = pass_begin _ _
-
-pub returns-then-not-records_apart : goal.returns-then-not-records_apart
-unfolding voices_apart
-returns-then-not-records_apart c =
-    let l = c.loop-k in
-    pass_cut l.invariant c.loop-k-test.true c.records_apart.ensures (ap not c.if-not-records_apart.true)
-
-pub loop-k-preserved : goal.loop-k-preserved
-loop-k-preserved c =
-    let l = c.loop-k in
-    pass_more l.invariant c.loop-k-test.true c.records_apart.ensures (ap not c.if-not-records_apart.false)
 
 pub returns : goal.returns
 unfolding voices_apart
-returns c = pass_end c.loop-k.invariant (omega arith)
+returns c =
+    let p : ℕ → Bool = λ k. not (used_at c.args.d.now k && used_at c.args.e.now k) in
+    range_all p c.args.n _ (cases_from_all _ _ _ (λ i. true ≡ p i) (λ i. false ≡ p i) c.all.ensures.ran
+    (YieldsList-from_range 0 c.args.n c.args.n refl (sub-zero c.args.n)) (λ x r k. search rules) (λ x r k. search rules))

@@ -41,5 +41,5 @@ returns c =
     let fits : length (merged_block c.args.n t u) ≤ length out = omega (arith, c.if-output-size.false, size) in
     let laid =
     block_laid c.args.n t u (pools (goal.at.returns c).After-title_sections-s) (rest (goal.at.returns c).After-rest-rest) out (omega (arith, fits, size)) c.put_front.ensures
-    c.put_sections.ensures c.copy_in_u8.ensures in
+    c.put_sections.ensures c.copy_in.ensures in
     (λ i. merge_left 0 (size i) (laid i)) ∙ sym (done_fits (merged_block c.args.n t u) out fits)

@@ -1,7 +1,6 @@
 use mathlib.Core.Bool.{Bool}
 use mathlib.Core.List.{List}
 use mathlib.Core.Path.{◌≡◌}
-use Prim.Native.Nat.{◌-◌}
 use lib.ListN.{length}
 use Rattle.rows.specs.Loops.{Turning}
 use Rattle.merging.specs.Marks.{most_marks, marked_at}
@@ -9,6 +8,3 @@ use Rattle.merging.proofs.marks.mark_named.Given as goal
 
 abbrev pub invariant-loop-k : goal.invariant-loop-k
 invariant-loop-k l = Turning (λ (m : List Bool). length m ≡ most_marks) (marked_at l.n l.d) l.n l.initial.marks l.marks l.k
-
-abbrev pub decreases-loop-k : goal.decreases-loop-k
-decreases-loop-k l = l.n - l.k

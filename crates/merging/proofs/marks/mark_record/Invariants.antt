@@ -1,7 +1,6 @@
 use mathlib.Core.Bool.{Bool}
 use mathlib.Core.List.{List}
 use mathlib.Core.Path.{◌≡◌}
-use Prim.Native.Nat.{◌-◌}
 use lib.ListN.{length}
 use Rattle.rows.specs.Loops.{Turning}
 use Rattle.merging.specs.Marks.{mark_channel}
@@ -9,6 +8,3 @@ use Rattle.merging.proofs.marks.mark_record.Given as goal
 
 abbrev pub invariant-loop-c : goal.invariant-loop-c
 invariant-loop-c l = Turning (λ (m : List Bool). length m ≡ length l.initial.marks) (mark_channel l.n l.e) l.channels l.initial.marks l.marks l.c
-
-abbrev pub decreases-loop-c : goal.decreases-loop-c
-decreases-loop-c l = l.channels - l.c

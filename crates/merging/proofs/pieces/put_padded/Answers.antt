@@ -10,22 +10,23 @@ use Rattle.reply_sections.specs.Bytes.{zeros, length_zeros}
 use Rattle.merging.proofs.Padding.{padded_is}
 use Rattle.merging.proofs.pieces.put_padded.Goals as goal
 
-pub slice_bounds-copy_in_u8-end : goal.slice_bounds-copy_in_u8-end
-slice_bounds-copy_in_u8-end c = sym (length-take-le _ _ (omega (arith, c.least-n.ensures)))
+pub slice_bounds-copy_in-end : goal.slice_bounds-copy_in-end
+slice_bounds-copy_in-end c = sym (length-take-le _ _ (omega (arith, c.min-n.ensures)))
 
-pub copy_in_u8-requires : goal.copy_in_u8-requires
-copy_in_u8-requires c =
-    let long : length (take c.least-n.result c.rest-there.result.now) ≡ c.least-n.result =
-    length-take-le _ _ (omega (arith, c.least-n.ensures)) in
-    omega (arith, long, c.least-n.ensures)
+pub copy_in-requires : goal.copy_in-requires
+copy_in-requires c =
+    let long : length (take c.min-n.result c.rest-there.result.now) ≡ c.min-n.result =
+    length-take-le _ _ (omega (arith, c.min-n.ensures)) in
+    omega (arith, long, c.min-n.ensures)
 
 pub returns : goal.returns
+unfolding zeros
 returns c =
     let out = c.args.output.now in
-    let n = c.least-n.result in
+    let n = c.min-n.result in
     let there = c.rest-there.result.now in
-    let long : length (take n there) ≡ n = length-take-le n there (omega (arith, c.least-n.ensures)) in
-    let room : c.args.at + n + length (zeros (c.args.w - n)) ≤ length out = rw length_zeros (omega (arith, c.least-n.ensures)) in
-    let all = padded_is c.args.w c.args.from c.args.s.now n (c.least-n.ensures ∙ (λ i. min c.args.w (length (c.rest-there.ensures i)))) in
-    put_more out c.args.at n (take n there) (zeros (c.args.w - n)) long room c.copy_in_u8.ensures c.put_zeros.ensures
+    let long : length (take n there) ≡ n = length-take-le n there (omega (arith, c.min-n.ensures)) in
+    let room : c.args.at + n + length (zeros (c.args.w - n)) ≤ length out = rw length_zeros (omega (arith, c.min-n.ensures)) in
+    let all = padded_is c.args.w c.args.from c.args.s.now n (c.min-n.ensures ∙ (λ i. min c.args.w (length (c.rest-there.ensures i)))) in
+    put_more out c.args.at n (take n there) (zeros (c.args.w - n)) long room c.copy_in.ensures c.fill.ensures
     ∙ ap (put out c.args.at) ((λ i. take n (c.rest-there.ensures i) ++ zeros (c.args.w - n)) ∙ all)

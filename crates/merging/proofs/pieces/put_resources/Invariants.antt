@@ -1,5 +1,5 @@
 use mathlib.Core.Bool.{false}
-use Prim.Native.Nat.{ℕ, ◌-◌}
+use Prim.Native.Nat.{ℕ}
 use lib.ListN.{get_or}
 use Rattle.rows.specs.Tables.{Joining}
 use Rattle.merging.specs.Merge.{resource_size, chosen_resource}
@@ -8,6 +8,3 @@ use Rattle.merging.proofs.pieces.put_resources.Given as goal
 abbrev pub invariant-loop-j : goal.invariant-loop-j
 invariant-loop-j l =
     Joining l.initial.output l.at l.n resource_size (λ (i : ℕ). chosen_resource (get_or l.named i false) l.title l.click i) l.output l.j
-
-abbrev pub decreases-loop-j : goal.decreases-loop-j
-decreases-loop-j l = l.n - l.j

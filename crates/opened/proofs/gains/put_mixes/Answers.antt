@@ -4,4 +4,4 @@ use Rattle.opened.proofs.gains.put_mixes.Goals as goal
 
 pub returns : goal.returns
 unfolding of_bits
-returns c = c.repeat_f32.ensures
+returns c = c.repeat.ensures

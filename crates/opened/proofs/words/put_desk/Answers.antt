@@ -5,4 +5,4 @@ use Rattle.opened.proofs.words.put_desk.Goals as goal
 pub returns : goal.returns
 returns c =
     desk_words_written _ _ _ _ _ _ c.requires
-    c.put_mixes.ensures c.zeros_u32.ensures c.zeros_u32-2.ensures c.put_destinations.ensures
+    c.put_mixes.ensures c.fill.ensures c.fill-2.ensures c.put_destinations.ensures

@@ -4,4 +4,4 @@ use Rattle.opened.proofs.words.put_params.Goals as goal
 
 pub returns : goal.returns
 unfolding row_of
-returns c = c.copy_in_u32.ensures
+returns c = c.copy_in.ensures

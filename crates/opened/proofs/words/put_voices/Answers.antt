@@ -9,4 +9,4 @@ use Rattle.opened.proofs.words.put_voices.Goals as goal
 
 pub returns : goal.returns
 returns c =
-    c.repeat_u32.ensures ∙ ap (λ (r : List ℕ). put c.args.words.now c.args.at (joined c.args.n (λ _. r))) default_words
+    c.repeat.ensures ∙ ap (λ (r : List ℕ). put c.args.words.now c.args.at (joined c.args.n (λ _. r))) default_words

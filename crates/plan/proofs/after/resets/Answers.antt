@@ -3,10 +3,10 @@ use Rattle.std.proofs.Common.{eq-eqb, ne_eqb}
 use Rattle.plan.specs.Rounds.{resets_played}
 use Rattle.plan.proofs.after.resets.Goals as goal
 
-pub returns-then-got-eq0 : goal.returns-then-got-eq0
+pub returns-then-got-ne0 : goal.returns-then-got-ne0
 unfolding resets_played
-returns-then-got-eq0 c = simp (eq-eqb _ _ c.if-got-eq0.true)
+returns-then-got-ne0 c = simp (ne_eqb _ _ c.if-got-ne0.true)
 
-pub returns : goal.returns
+pub returns-else-got-ne0 : goal.returns-else-got-ne0
 unfolding resets_played
-returns c = simp (ne_eqb _ _ c.if-got-eq0.false)
+returns-else-got-ne0 c = simp (eq-eqb _ _ c.if-got-ne0.false)

@@ -8,6 +8,6 @@ pub returns-then-total-offset : goal.returns-then-total-offset
 unfolding span_over
 returns-then-total-offset c = simp (le-leb _ _ c.if-total-offset.true)
 
-pub returns : goal.returns
+pub returns-else-total-offset : goal.returns-else-total-offset
 unfolding span_over
-returns c = simp (lt-leb _ _ c.if-total-offset.false)
+returns-else-total-offset c = simp (lt-leb _ _ c.if-total-offset.false)

@@ -26,10 +26,10 @@ pub returns-then-n-eq0 : goal.returns-then-n-eq0
 returns-then-n-eq0 c =
     c.missing.ensures ∙ pcm_made c.args.width (over c.args.s c.args.ranges.now) c.args.wb c.args.start c.args.want c.frames_left-n.ensures (eq-eqb _ 0 c.if-n-eq0.true) refl refl
 
-pub overflow_mul-start : goal.overflow_mul-start
-overflow_mul-start c =
+pub overflow_mul-addr : goal.overflow_mul-addr
+overflow_mul-addr c =
     let h : c.args.start.0 ≤ 2 ^ 32 = omega (arith, c.requires.start_bound.0) in
-    omega (arith, mul-le-mul h (frame_le (goal.at.overflow_mul-start c).Start))
+    omega (arith, mul-le-mul h (frame_le (goal.at.overflow_mul-addr c).Start))
 
 pub overflow_mul-n : goal.overflow_mul-n
 overflow_mul-n c =
@@ -38,11 +38,11 @@ overflow_mul-n c =
 
 pub returns-then-readable : goal.returns-then-readable
 returns-then-readable c =
-    pcm_made c.args.width (over c.args.s c.args.ranges.now) c.args.wb c.args.start c.args.want c.frames_left-n.ensures (ne_eqb _ 0 c.if-n-eq0.false) c.wrapping_add_u64-addr.ensures.value
+    pcm_made c.args.width (over c.args.s c.args.ranges.now) c.args.wb c.args.start c.args.want c.frames_left-n.ensures (ne_eqb _ 0 c.if-n-eq0.false) refl
     (sym c.readable.ensures ∙ c.if-readable.true)
 
 pub returns : goal.returns
 returns c =
     c.missing-2.ensures
-    ∙ pcm_made c.args.width (over c.args.s c.args.ranges.now) c.args.wb c.args.start c.args.want c.frames_left-n.ensures (ne_eqb _ 0 c.if-n-eq0.false) c.wrapping_add_u64-addr.ensures.value
+    ∙ pcm_made c.args.width (over c.args.s c.args.ranges.now) c.args.wb c.args.start c.args.want c.frames_left-n.ensures (ne_eqb _ 0 c.if-n-eq0.false) refl
     (sym c.readable.ensures ∙ c.if-readable.false)

@@ -1,5 +1,6 @@
 -- `plan::context_read` meets its contract: each way out is a case of the tests. Assumes nothing.
-use Rattle.std.proofs.Common.{eq-eqb, ne_eqb}
+use Rattle.std.proofs.Common.{Bool, ap, ◌∙◌, eq-eqb, ne_eqb}
+use Rattle.std.specs.Bool.{then_some}
 use Rattle.plan.specs.Rounds.{renews_of}
 use Rattle.plan.proofs.rounds.context_read.Goals as goal
 
@@ -18,4 +19,5 @@ returns-then-wb-eq0 c = simp (eq-eqb _ _ c.if-offset-ne0.false, eq-eqb _ _ c.if-
 pub returns : goal.returns
 unfolding renews_of
 returns c =
-    simp (eq-eqb _ _ c.if-offset-ne0.false, eq-eqb _ _ c.if-s-ne-ADPCM.false, ne_eqb _ _ c.if-wb-eq0.false) c.readable.ensures
+    simp (eq-eqb _ _ c.if-offset-ne0.false, eq-eqb _ _ c.if-s-ne-ADPCM.false, ne_eqb _ _ c.if-wb-eq0.false)
+    (c.then_some.ensures ∙ ap (λ (b : Bool). then_some b c.args.wb.context) c.readable.ensures)

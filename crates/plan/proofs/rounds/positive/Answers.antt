@@ -2,8 +2,8 @@
 use Rattle.std.proofs.Common.{eq-eqb, ne_eqb}
 use Rattle.plan.proofs.rounds.positive.Goals as goal
 
-pub returns-then-x-eq0 : goal.returns-then-x-eq0
-returns-then-x-eq0 c = rw (eq-eqb _ 0 c.if-x-eq0.true)
+pub returns-then-x-ne0 : goal.returns-then-x-ne0
+returns-then-x-ne0 c = rw (ne_eqb _ 0 c.if-x-ne0.true)
 
-pub returns : goal.returns
-returns c = rw (ne_eqb _ 0 c.if-x-eq0.false)
+pub returns-else-x-ne0 : goal.returns-else-x-ne0
+returns-else-x-ne0 c = rw (eq-eqb _ 0 c.if-x-ne0.false)

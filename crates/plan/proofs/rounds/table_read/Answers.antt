@@ -3,10 +3,10 @@ use Rattle.std.proofs.Common.{eq-eqb, ne_eqb}
 use Rattle.plan.specs.Rounds.{has_table}
 use Rattle.plan.proofs.rounds.table_read.Goals as goal
 
-pub returns-then-s-ne-ADPCM : goal.returns-then-s-ne-ADPCM
+pub returns-then-s-eq-ADPCM : goal.returns-then-s-eq-ADPCM
 unfolding has_table
-returns-then-s-ne-ADPCM c = simp (ne_eqb _ _ c.if-s-ne-ADPCM.true)
+returns-then-s-eq-ADPCM c = simp (eq-eqb _ _ c.if-s-eq-ADPCM.true) c.readable.ensures
 
-pub returns : goal.returns
+pub returns-else-s-eq-ADPCM : goal.returns-else-s-eq-ADPCM
 unfolding has_table
-returns c = simp (eq-eqb _ _ c.if-s-ne-ADPCM.false) c.readable.ensures
+returns-else-s-eq-ADPCM c = simp (ne_eqb _ _ c.if-s-eq-ADPCM.false)

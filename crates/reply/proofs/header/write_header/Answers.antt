@@ -21,13 +21,13 @@ pub overflow_cast-total : goal.overflow_cast-total
 overflow_cast-total c =
     omega (arith, reply_below c.args.p c.args.expected c.requires.allowed (omega arith))
 
-pub header_words-header-requires : goal.header_words-header-requires
-header_words-header-requires c = record { allowed = c.requires.allowed; pools_bound = omega (arith, pools_small c.args.p c.requires.allowed) }
+pub header_words-requires : goal.header_words-requires
+header_words-requires c = record { allowed = c.requires.allowed; pools_bound = omega (arith, pools_small c.args.p c.requires.allowed) }
 
 pub returns : goal.returns
 unfolding header_of
 returns c =
     c.put_words.ensures
     ∙ ap (λ (ws : List ℕ). put c.args.out.now 0 (words_bytes ws))
-    (c.header_words-header.ensures
+    (c.header_words.ensures
     ∙ (λ k. header_from c.args.p (c.memory_pools-pools.ensures k) (c.effects_bytes-effects.ensures k) (c.render_info_size-info.ensures k) (c.reply_length-total.ensures k)))

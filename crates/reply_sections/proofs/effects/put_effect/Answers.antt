@@ -3,19 +3,16 @@ use mathlib.Core.Path.{refl, ap, sym, ◌∙◌}
 use mathlib.Core.List.{[], ◌∷◌}
 use Prim.Native.Nat.{◌-◌}
 use native.Mathlib.Omega.{arith}
-use lib.ListN.{length-set}
 use Rattle.rows.specs.Rows.{put, put_one, put_more}
 use Rattle.reply_sections.specs.Bytes.{zeros, length_zeros, put_none}
 use Rattle.reply_sections.specs.Effects.{effect_none, effect_some}
 use Rattle.reply_sections.proofs.effects.put_effect.Goals as goal
 
-pub returns-then-w-eq0 : goal.returns-then-w-eq0
-returns-then-w-eq0 c = put_none _ _ (omega arith) ∙ ap (put _ _) (sym (effect_none _ _ c.if-w-eq0.true))
-
-pub put_zeros-requires : goal.put_zeros-requires
-put_zeros-requires c = simp length-set (omega arith)
-
-pub returns : goal.returns
-returns c =
-    put_more c.args.out.now c.args.at 1 (c.args.state ∷ []) (zeros (c.args.w - 1)) refl (omega (arith, length_zeros (c.args.w - 1))) (put_one _ _ _ (omega arith)) c.put_zeros.ensures
+pub returns-then-w-gt0 : goal.returns-then-w-gt0
+unfolding zeros
+returns-then-w-gt0 c =
+    put_more c.args.out.now c.args.at 1 (c.args.state ∷ []) (zeros (c.args.w - 1)) refl (omega (arith, length_zeros (c.args.w - 1))) (put_one _ _ _ (omega arith)) c.fill.ensures
     ∙ ap (put _ _) (sym (effect_some c.args.w c.args.state (omega arith)))
+
+pub returns-else-w-gt0 : goal.returns-else-w-gt0
+returns-else-w-gt0 c = put_none _ _ (omega arith) ∙ ap (put _ _) (sym (effect_none _ _ (omega arith)))

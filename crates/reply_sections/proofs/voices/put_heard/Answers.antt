@@ -10,10 +10,10 @@ use Rattle.reply_sections.specs.Voices.{heard_of}
 use Rattle.reply_sections.proofs.voices.put_heard.Goals as goal
 
 pub returns : goal.returns
-unfolding heard_of
+unfolding heard_of zeros
 returns c =
     let played = bytes_of 8 c.args.played in
     let consumed = bytes_of 4 c.args.consumed in
     put_more c.args.out.now c.args.at 12 (played ++ consumed) (zeros 4) (rw (length-append, length_bytes, length_bytes)) (omega (arith, length_zeros 4))
     (put_more c.args.out.now c.args.at 8 played consumed (length_bytes 8 _) (omega (arith, length_bytes 4 c.args.consumed)) c.put_u64.ensures c.put_u32.ensures)
-    c.put_zeros.ensures
+    c.fill.ensures

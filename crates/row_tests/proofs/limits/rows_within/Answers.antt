@@ -23,12 +23,6 @@ pub returns-then-not-row_within : goal.returns-then-not-row_within
 unfolding rows_within
 returns-then-not-row_within c = pass_cut c.loop-i.invariant c.loop-i-test.true c.row_within.ensures (ap not c.if-not-row_within.true)
 
-pub overflow_add-i : goal.overflow_add-i
-overflow_add-i c = omega arith
-
-pub loop-i-smaller : goal.loop-i-smaller
-loop-i-smaller c = omega arith
-
 pub loop-i-preserved : goal.loop-i-preserved
 loop-i-preserved c = pass_more c.loop-i.invariant c.loop-i-test.true c.row_within.ensures (ap not c.if-not-row_within.false)
 

@@ -7,6 +7,6 @@ pub returns-then-used-eq0 : goal.returns-then-used-eq0
 unfolding some_channel
 returns-then-used-eq0 c = simp (eq-eqb _ _ c.if-used-eq0.true)
 
-pub returns : goal.returns
+pub returns-else-used-eq0 : goal.returns-else-used-eq0
 unfolding some_channel
-returns c = simp (ne_eqb _ _ c.if-used-eq0.false)
+returns-else-used-eq0 c = simp (ne_eqb _ _ c.if-used-eq0.false)

@@ -21,7 +21,7 @@ loop-k-preserved c =
     let l = c.loop-k in
     let d = c.args.d.now in
     write_more l.invariant (omega arith) c.requires.d_in_bounds (length_word (4 * l.k) (le 4 d (4 * l.k)))
-    (c.put_word-end.ensures ∙ ap (λ (v : ℕ). append (text l.out l.end) (word_text (4 * l.k) v)) c.word_at-v.ensures)
+    (c.put_word-end.ensures ∙ ap (λ (v : ℕ). append (text l.out l.end) (word_text (4 * l.k) v)) c.word_at.ensures)
 
 pub returns : goal.returns
 unfolding words_text

@@ -1,4 +1,4 @@
-use Prim.Native.Nat.{◌+◌, ◌-◌, ◌*◌, ◌/◌}
+use Prim.Native.Nat.{◌+◌, ◌*◌, ◌/◌}
 use lib.ListN.{length}
 use Rattle.fields.specs.Fields.{le}
 use Rattle.session.specs.Text.{text}
@@ -8,6 +8,3 @@ use Rattle.session.proofs.lines.put_words.Given as goal
 
 abbrev pub invariant-loop-k : goal.invariant-loop-k
 invariant-loop-k l = Writing (text l.initial.out l.at) ((length l.d + 3) / 4) 14 (λ i. word_text (4 * i) (le 4 l.d (4 * i))) l.out l.end l.k
-
-abbrev pub decreases-loop-k : goal.decreases-loop-k
-decreases-loop-k l = l.n - l.k

@@ -2,12 +2,10 @@
 use Rattle.session_run.proofs.Opening.{open_ran, open_refused}
 use Rattle.session_run.proofs.room.open.Goals as goal
 
-pub refuse-requires-clause-input_value : goal.refuse-requires-clause-input_value
-refuse-requires-clause-input_value g c =
-    open_refused _ _ _ _ c.requires.p_value c.requires.input_value c.«open».result c.«open».ensures
-    c.number-number.ensures c.if-number-gt0.true
-
 pub run-requires-clause-input_value : goal.run-requires-clause-input_value
 run-requires-clause-input_value g c =
-    open_ran _ _ _ _ c.requires.p_value c.requires.input_value c.«open».result c.«open».ensures
-    c.number-number.ensures c.if-number-gt0.false
+    open_ran _ _ _ _ c.requires.p_value c.requires.input_value c.«open».result c.«open».ensures c.in-Ok.is
+
+pub refuse-requires-clause-input_value : goal.refuse-requires-clause-input_value
+refuse-requires-clause-input_value g c =
+    open_refused _ _ _ _ c.requires.p_value c.requires.input_value c.«open».result c.«open».ensures c.in-Err.is c.number.ensures

@@ -1,31 +1,35 @@
 -- `session_run::turns::run`: before each turn, the lines that are still to be printed are those of the calls that are left. Assumes nothing.
 use Rattle.std.proofs.Common.{◌<◌, ◌∙◌, arith, rules, length}
 use Rattle.session_run.specs.Lines.{lines_of}
-use Rattle.session_run.proofs.Running.{run_end, turn_line, turn_near, turn_more, run_on}
+use Rattle.session_run.proofs.Running.{found, run_end, turn_line, turn_near, turn_last, turn_next}
 use Rattle.session_run.proofs.turns.run.Goals as goal
 
 pub turn-requires-clause-line_at : goal.turn-requires-clause-line_at
-turn-requires-clause-line_at g c = turn_line c.loop-left.invariant.0 c.loop-left-test.true
+turn-requires-clause-line_at g c = turn_line c.loop.invariant.0 (omega arith)
 
-pub returns-in_err-after-clause-err : goal.returns-in_err-after-clause-err
-returns-in_err-after-clause-err g c =
-    let near = turn_line c.loop-left.invariant.0 c.loop-left-test.true in
-    let short : c.turn.new.printed < length (lines_of c.args.input.now) = omega (arith, near.there, c.in_err-after.ensures.err) in
+pub returns-in_err-next-clause-err : goal.returns-in_err-next-clause-err
+returns-in_err-next-clause-err g c =
+    let near = turn_line c.loop.invariant.0 (omega arith) in
+    let short : c.turn.new.printed < length (lines_of c.args.input.now) = omega (arith, near.there, c.in_err-next.ensures.err) in
     search rules
+
+pub returns-in-None-clause-ok : goal.returns-in-None-clause-ok
+returns-in-None-clause-ok g c =
+    turn_last c.loop.invariant.0 (omega arith) c.in_ok-next.ensures.printed_after (found c.in-None.is c.in_ok-next.ensures.reply_after)
 
 pub overflow_add-at : goal.overflow_add-at
 overflow_add-at g c =
     omega (
       arith,
-      turn_near c.loop-left.invariant.0 c.loop-left-test.true c.in_ok-after.ensures.printed_after c.in_ok-after.ensures.reply_after,
+      turn_near c.loop.invariant.0 (omega arith) c.in_ok-next.ensures.printed_after (found c.in-Some.is c.in_ok-next.ensures.reply_after),
     )
 
-pub loop-left-preserved : goal.loop-left-preserved
-loop-left-preserved g c =
-    let more = turn_more c.loop-left.invariant.0 c.loop-left-test.true c.in_ok-after.ensures.printed_after c.in_ok-after.ensures.reply_after in
+pub loop-preserved : goal.loop-preserved
+loop-preserved g c =
     let kept = c.turn.auto in
-    let lens = c.loop-left.invariant in (
-      run_on more c.left_behind-left.ensures,
+    let lens = c.loop.invariant in (
+      turn_next lens.0 (omega arith) c.in_ok-next.ensures.printed_after (found c.in-Some.is c.in_ok-next.ensures.reply_after)
+          (omega arith),
       kept.words ∙ lens.1,
       kept.longs ∙ lens.2,
       kept.floats ∙ lens.3,
@@ -37,4 +41,4 @@ loop-left-preserved g c =
     )
 
 pub returns-clause-ok : goal.returns-clause-ok
-returns-clause-ok g c = run_end c.loop-left.invariant.0 c.loop-left-test.false
+returns-clause-ok g c = run_end c.loop.invariant.0 (omega (arith, c.loop-test.false))

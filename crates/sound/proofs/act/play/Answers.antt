@@ -24,5 +24,5 @@ play_decode-requires c = record {
 pub returns : goal.returns
 returns c =
     let h : c.args.at ≤ length c.args.out.now = omega (arith, c.requires.room_at.want) in
-    performed_at (over c.args.s c.args.ranges.now) c.args.memory.now c.args.coefficients.now c.args.c c.args.a c.args.x c.args.at c.renew-y.ensures
+    performed_at (over c.args.s c.args.memory.now.ranges.now) c.args.memory.now.bytes.now c.args.coefficients.now c.args.c c.args.a c.args.x c.args.at c.renew-y.ensures
     (rest_lent c.args.out.now c.args.at h) (rest_returned c.args.out.now c.args.at h _) c.play_decode.ensures

@@ -23,7 +23,7 @@ few : (c : Start) → c.args.bytes ≤ adpcm_bytes
 few c = omega (arith, (formed c).1, span_le c.args.start.0 c.args.want c.requires.want_in_bounds.1)
 
 pub decode_adpcm-r-requires : goal.decode_adpcm-r-requires
-decode_adpcm-r-requires c = record { ascending = c.requires.ascending; bytes_value = (c.requires.bytes_value.0, few (goal.at.decode_adpcm-r-requires c).Start); start_bound = (omega (arith, (formed (goal.at.decode_adpcm-r-requires c).Start).0), c.requires.want_in_bounds.0) }
+decode_adpcm-r-requires c = record { bytes_value = (c.requires.bytes_value.0, few (goal.at.decode_adpcm-r-requires c).Start); start_bound = (omega (arith, (formed (goal.at.decode_adpcm-r-requires c).Start).0), c.requires.want_in_bounds.0) }
 
 pub returns-then-c-eq0 : goal.returns-then-c-eq0
 returns-then-c-eq0 c =
@@ -39,6 +39,6 @@ zeros-requires c =
 
 pub returns : goal.returns
 returns c =
-    let long = length_read c.args.memory.now (ranges_of c.args.ranges.now) c.args.addr c.args.bytes c.requires.ascending c.requires.bytes_value.0 in
+    let long = length_read c.args.memory.now.bytes.now (ranges_of c.args.memory.now.ranges.now) c.args.addr c.args.bytes c.args.memory.now.ascending c.requires.bytes_value.0 in
     adpcm_others c.args.c _ c.args.start c.args.want c.args.coefficients.now c.args.x c.if-c-eq0.false long c.adpcm_count-n.ensures
     c.zeros.ensures

@@ -15,14 +15,14 @@ use Rattle.sound.proofs.channel.fetch_channel.Goals.{After-spot_of-spot, Start}
 
 -- the history has three
 three : (c : Start) → length c.args.history ≡ 3
-three c = c.well_formed.1.1.1.1.1.1.0.1.0.1
+three c = c.well_formed.1.1.1.1.1.0.1.0.1
 
 -- what is asked of q is asked of its buffers at its spot
 ready : (c : After-spot_of-spot)
-    → (Ready (queue_at c.args.q.buffers c.spot_of-spot.result) (over c.args.s c.args.ranges.now) c.args.memory.now c.args.out.now)
+    → (Ready (queue_at c.args.q.buffers c.spot_of-spot.result) (over c.args.s c.args.memory.now.ranges.now) c.args.memory.now.bytes.now c.args.out.now)
 ready c =
     let a = c.args in
-    subst (λ (p : Spot). Ready (queue_at c.args.q.buffers p) (over c.args.s c.args.ranges.now) c.args.memory.now c.args.out.now)
+    subst (λ (p : Spot). Ready (queue_at c.args.q.buffers p) (over c.args.s c.args.memory.now.ranges.now) c.args.memory.now.bytes.now c.args.out.now)
     (sym c.spot_of-spot.ensures) c.requires.ready
 
 -- the samples of the row are few
@@ -45,11 +45,11 @@ pub loop-rounds-init : goal.loop-rounds-init
 loop-rounds-init c =
     going_none c.args.history (ready (goal.at.loop-rounds-init c).After-spot_of-spot) (ap (λ (n : ℕ). n - 3) (length_headed c.args.history c.args.out.now)) (c.begins-going.ensures _)
 
-pub offset_bounds-buffers-b : goal.offset_bounds-buffers-b
-offset_bounds-buffers-b c = omega (arith, c.loop-rounds.invariant.planning.index)
+pub offset_bounds-buffers-spot : goal.offset_bounds-buffers-spot
+offset_bounds-buffers-spot c = omega (arith, c.loop-rounds.invariant.planning.index)
 
-pub bounds-buffers-b : goal.bounds-buffers-b
-bounds-buffers-b c = c.loop-rounds.invariant.planning.index
+pub bounds-buffers-spot : goal.bounds-buffers-spot
+bounds-buffers-spot c = c.loop-rounds.invariant.planning.index
 
 pub overflow_sub-count-in-loop-rounds : goal.overflow_sub-count-in-loop-rounds
 overflow_sub-count-in-loop-rounds c = omega (arith, c.loop-rounds.invariant.planning.upto)
@@ -81,11 +81,11 @@ loop-rounds-preserved c =
     going_more c.args.history (ready (goal.at.loop-rounds-preserved c).After-spot_of-spot) c.loop-rounds.invariant (c.plan_round-r.ensures _ refl) c.play-p.ensures c.loop-rounds-test.true
     c.if-going.true (c.begins-going-in-loop-rounds.ensures _)
 
-pub overflow_cast-at : goal.overflow_cast-at
-overflow_cast-at c = omega (arith, c.loop-rounds.invariant.planning.upto, few (goal.at.overflow_cast-at c).Start)
+pub overflow_cast-done-2 : goal.overflow_cast-done-2
+overflow_cast-done-2 c = omega (arith, c.loop-rounds.invariant.planning.upto, few (goal.at.overflow_cast-done-2 c).Start)
 
-pub overflow_add-at : goal.overflow_add-at
-overflow_add-at c = omega (arith, c.loop-rounds.invariant.planning.upto, few (goal.at.overflow_add-at c).Start)
+pub overflow_add-done-2 : goal.overflow_add-done-2
+overflow_add-done-2 c = omega (arith, c.loop-rounds.invariant.planning.upto, few (goal.at.overflow_add-done-2 c).Start)
 
 pub zeros_from-requires : goal.zeros_from-requires
 zeros_from-requires c =
@@ -96,7 +96,7 @@ returns c =
     let p = c.loop-rounds.invariant.planning in
     let n = length c.args.out.now - 3 in
     subst (λ (p : Spot).
-    FetchedBy (queue_at c.args.q.buffers p) (over c.args.s c.args.ranges.now) c.args.memory.now c.args.coefficients.now c.args.c c.args.adpcm c.args.history n
+    FetchedBy (queue_at c.args.q.buffers p) (over c.args.s c.args.memory.now.ranges.now) c.args.memory.now.bytes.now c.args.coefficients.now c.args.c c.args.adpcm c.args.history n
     c.zeros_from.new.out c.loop-rounds.x)
     c.spot_of-spot.ensures (going_end c.args.history (ready (goal.at.returns c).After-spot_of-spot) c.loop-rounds.invariant (three (goal.at.returns c).Start)
     (elim c.loop-rounds-test.branch [

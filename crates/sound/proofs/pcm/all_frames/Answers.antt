@@ -14,12 +14,12 @@ small : (c : Start) → c.args.width * c.args.channels ≤ frame_bytes
 small c = frame_le c.args.width c.args.channels c.requires.width_value c.requires.channels_bound.0
 
 asked : (c : Start)
-    → (FramesAsked c.args.width c.args.channels c.args.c c.args.n c.args.addr (ranges_of c.args.ranges.now) c.args.memory.now c.args.out.now)
+    → (FramesAsked c.args.width c.args.channels c.args.c c.args.n c.args.addr (ranges_of c.args.memory.now.ranges.now) c.args.memory.now.bytes.now c.args.out.now)
 asked c = record {
   wide = c.requires.width_value;
   channel = c.requires.channels_bound.1;
   fits = c.requires.channels_bound.3;
-  memory = c.requires.ascending;
+  memory = c.args.memory.now.ascending;
   reads = c.requires.channels_value;
 }
 
@@ -43,7 +43,7 @@ slice_bounds-next_frames-start c = reached_inside c.loop-done.invariant
 
 pub next_frames-made-requires : goal.next_frames-made-requires
 next_frames-made-requires c =
-    let l = c.loop-done.invariant in record { width_value = c.requires.width_value; channels_bound = (c.requires.channels_bound.0, c.requires.channels_bound.1, omega arith, omega (arith, c.requires.channels_bound.2), reached_room l); ascending = c.requires.ascending; channels_value = reached_left l }
+    let l = c.loop-done.invariant in record { width_value = c.requires.width_value; channels_bound = (c.requires.channels_bound.0, c.requires.channels_bound.1, omega arith, omega (arith, c.requires.channels_bound.2), reached_room l); channels_value = reached_left l }
 
 pub loop-done-preserved : goal.loop-done-preserved
 loop-done-preserved c =

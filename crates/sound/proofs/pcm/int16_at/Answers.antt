@@ -10,4 +10,4 @@ use Rattle.sound.proofs.pcm.int16_at.Goals as goal
 
 pub returns : goal.returns
 unfolding pcm_at
-returns c = ap (of_int binary32) (to_z-of_z {w = w16} (record { sfits = omega arith }) ∙ c.signed16.ensures ∙ ap (to_z w16) c.u16_at.ensures)
+returns c = ap (of_int binary32) (to_z-of_z {w = w16} (record { sfits = omega arith }) ∙ c.cast_signed.ensures ∙ ap (to_z w16) c.u16_at.ensures)

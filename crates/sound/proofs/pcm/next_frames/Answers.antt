@@ -12,7 +12,7 @@ use Rattle.across.specs.Lengths.{frame_bytes}
 use Rattle.sound.specs.Sound.{pcm_of}
 use Rattle.sound.proofs.Stretches.{frame_some, frame_le, FramesAsked, frames_cut}
 use Rattle.sound.proofs.pcm.next_frames.Goals as goal
-use Rattle.sound.proofs.pcm.next_frames.Goals.{After-whole_frames-whole, Start}
+use Rattle.sound.proofs.pcm.next_frames.Goals.{After-min-whole, Start}
 
 -- a frame's bytes
 abbrev frame : Start → ℕ
@@ -22,12 +22,12 @@ small : (c : Start) → frame c ≤ frame_bytes
 small c = frame_le c.args.width c.args.channels c.requires.width_value c.requires.channels_bound.0
 
 asked : (c : Start)
-    → (FramesAsked c.args.width c.args.channels c.args.c c.args.n c.args.addr (ranges_of c.args.ranges.now) c.args.memory.now c.args.out.now)
+    → (FramesAsked c.args.width c.args.channels c.args.c c.args.n c.args.addr (ranges_of c.args.memory.now.ranges.now) c.args.memory.now.bytes.now c.args.out.now)
 asked c = record {
   wide = c.requires.width_value;
   channel = c.requires.channels_bound.1;
   fits = c.requires.channels_bound.4;
-  memory = c.requires.ascending;
+  memory = c.args.memory.now.ascending;
   reads = c.requires.channels_value;
 }
 
@@ -39,55 +39,54 @@ whole_le n room size e =
     let some = subst (λ (x : ℕ). x ≤ q) (sym e) (min-le_right n q) in
     (few, omega (arith, mul-le-mul_right size some, div-mul-le_self room size))
 
-whole : (c : After-whole_frames-whole)
-    → (c.whole_frames-whole.result ≤ c.args.n) × (c.whole_frames-whole.result * (c.args.width * c.args.channels) ≤ c.stretch_at-s.result.room)
-whole c = whole_le c.args.n c.stretch_at-s.result.room ((c.args.width * c.args.channels)) c.whole_frames-whole.ensures
+whole : (c : After-min-whole)
+    → (c.min-whole.result ≤ c.args.n) × (c.min-whole.result * (c.args.width * c.args.channels) ≤ c.in-Some.s.room)
+whole c = whole_le c.args.n c.in-Some.s.room ((c.args.width * c.args.channels)) c.min-whole.ensures
 
 -- their bytes are a part of the slice
-lying : (c : After-whole_frames-whole)
-    → (Lies (ranges_of c.args.ranges.now) c.args.memory.now c.args.addr (c.whole_frames-whole.result * (c.args.width * c.args.channels)) c.stretch_at-s.result)
+lying : (c : After-min-whole)
+    → (Lies (ranges_of c.args.memory.now.ranges.now) c.args.memory.now.bytes.now c.args.addr (c.min-whole.result * (c.args.width * c.args.channels)) c.in-Some.s)
 lying c =
-    lies c.args.memory.now (omega arith) c.requires.ascending c.args.addr (c.whole_frames-whole.result * (c.args.width * c.args.channels))
-    c.stretch_at-s.ensures (whole c).1
+    lies c.args.memory.now.bytes.now (omega arith) c.args.memory.now.ascending c.args.addr (c.min-whole.result * (c.args.width * c.args.channels))
+    (sym c.stretch_at.ensures ∙ c.in-Some.is) (whole c).1
 
 pub overflow_mul-frame : goal.overflow_mul-frame
 overflow_mul-frame c = omega (arith, small (goal.at.overflow_mul-frame c).Start)
 
-pub whole_frames-whole-requires : goal.whole_frames-whole-requires
-whole_frames-whole-requires c =
-    frame_some c.args.width c.args.channels c.args.c c.requires.width_value c.requires.channels_bound.1
+pub nonzero_div-s : goal.nonzero_div-s
+nonzero_div-s c = frame_some c.args.width c.args.channels c.args.c c.requires.width_value c.requires.channels_bound.1
 
 pub straddling_frame-requires : goal.straddling_frame-requires
 straddling_frame-requires c =
     let one = (frames_cut (asked (goal.at.straddling_frame-requires c).Start) 1 (c.args.n - 1) (omega (arith, c.requires.channels_bound.2))).0 in
-    let reads = sym (ap (readable_of (ranges_of c.args.ranges.now) c.args.addr) (one-mul (frame (goal.at.straddling_frame-requires c).Start))) ∙ one in record { width_value = c.requires.width_value; channels_bound = (c.requires.channels_bound.0, c.requires.channels_bound.1, omega (arith, c.requires.channels_bound)); ascending = c.requires.ascending; channels_value = reads }
-
-pub returns-then-whole-eq0 : goal.returns-then-whole-eq0
-returns-then-whole-eq0 c =
-    let one = sym (one-mul (frame (goal.at.returns-then-whole-eq0 c).Start)) in record {
-      result_nonzero = (omega arith, omega (arith, c.requires.channels_bound.2));
-      out_after = c.straddling_frame.ensures
-          ∙ (λ i.
-          pcm_of c.args.width c.args.channels c.args.c (read_of (ranges_of c.args.ranges.now) c.args.memory.now c.args.addr (one i)) 1
-          ++ drop 1 c.args.out.now);
-    }
+    let reads = sym (ap (readable_of (ranges_of c.args.memory.now.ranges.now) c.args.addr) (one-mul (frame (goal.at.straddling_frame-requires c).Start))) ∙ one in record { width_value = c.requires.width_value; channels_bound = (c.requires.channels_bound.0, c.requires.channels_bound.1, omega (arith, c.requires.channels_bound)); channels_value = reads }
 
 pub overflow_mul-end : goal.overflow_mul-end
-overflow_mul-end c = omega (arith, (whole (goal.at.overflow_mul-end c).After-whole_frames-whole).1)
+overflow_mul-end c = omega (arith, (whole (goal.at.overflow_mul-end c).After-min-whole).1)
 
 pub overflow_add-end : goal.overflow_add-end
-overflow_add-end c = omega (arith, (lying (goal.at.overflow_add-end c).After-whole_frames-whole).inside)
+overflow_add-end c = omega (arith, (lying (goal.at.overflow_add-end c).After-min-whole).inside)
 
 pub slice_bounds-frames-end : goal.slice_bounds-frames-end
-slice_bounds-frames-end c = omega (arith, (lying (goal.at.slice_bounds-frames-end c).After-whole_frames-whole).inside)
+slice_bounds-frames-end c = omega (arith, (lying (goal.at.slice_bounds-frames-end c).After-min-whole).inside)
 
 pub frames-requires : goal.frames-requires
-frames-requires c = record { width_value = c.requires.width_value; channels_bound = (c.requires.channels_bound.0, omega (arith, c.requires.channels_bound), omega (arith, c.requires.channels_bound, (whole (goal.at.frames-requires c).After-whole_frames-whole).0), omega (arith, c.requires.channels_bound, (whole (goal.at.frames-requires c).After-whole_frames-whole).0)) }
+frames-requires c = record { width_value = c.requires.width_value; channels_bound = (c.requires.channels_bound.0, omega (arith, c.requires.channels_bound), omega (arith, c.requires.channels_bound, (whole (goal.at.frames-requires c).After-min-whole).0), omega (arith, c.requires.channels_bound, (whole (goal.at.frames-requires c).After-min-whole).0)) }
+
+pub returns-then-whole-ne0 : goal.returns-then-whole-ne0
+returns-then-whole-ne0 c =
+    let n = c.min-whole.result in record {
+      result_nonzero = (omega arith, (whole (goal.at.returns-then-whole-ne0 c).After-min-whole).0);
+      out_after = c.frames.ensures
+          ∙ (λ i. pcm_of c.args.width c.args.channels c.args.c ((lying (goal.at.returns-then-whole-ne0 c).After-min-whole).bytes refl i) n ++ drop n c.args.out.now);
+    }
 
 pub returns : goal.returns
 returns c =
-    let n = c.whole_frames-whole.result in record {
-      result_nonzero = (omega arith, (whole (goal.at.returns c).After-whole_frames-whole).0);
-      out_after = c.frames.ensures
-          ∙ (λ i. pcm_of c.args.width c.args.channels c.args.c ((lying (goal.at.returns c).After-whole_frames-whole).bytes refl i) n ++ drop n c.args.out.now);
+    let one = sym (one-mul (frame (goal.at.returns c).Start)) in record {
+      result_nonzero = (omega arith, omega (arith, c.requires.channels_bound.2));
+      out_after = c.straddling_frame.ensures
+          ∙ (λ i.
+          pcm_of c.args.width c.args.channels c.args.c (read_of (ranges_of c.args.memory.now.ranges.now) c.args.memory.now.bytes.now c.args.addr (one i)) 1
+          ++ drop 1 c.args.out.now);
     }

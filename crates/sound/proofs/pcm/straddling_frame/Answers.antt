@@ -19,7 +19,7 @@ pub overflow_mul-frame : goal.overflow_mul-frame
 overflow_mul-frame c = omega (arith, small (goal.at.overflow_mul-frame c).Start)
 
 pub frame-block-requires : goal.frame-block-requires
-frame-block-requires c = record { ascending = c.requires.ascending; size_value = (c.requires.channels_value, small (goal.at.frame-block-requires c).Start) }
+frame-block-requires c = record { size_value = (c.requires.channels_value, small (goal.at.frame-block-requires c).Start) }
 
 pub slice_bounds-block-end : goal.slice_bounds-block-end
 slice_bounds-block-end c = omega (arith, small (goal.at.slice_bounds-block-end c).Start)

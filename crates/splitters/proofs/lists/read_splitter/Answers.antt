@@ -7,7 +7,7 @@ use Rattle.splitters.proofs.lists.read_splitter.Goals as goal
 pub returns : goal.returns
 unfolding splitter_step count_of
 returns c =
-    let e : c.least-n.result ≡ count_of c.args.nd c.args.d.now c.args.at = c.least-n.ensures ∙ ap (λ (x : ℕ). min x c.args.nd) c.u32_at.ensures in (
+    let e : c.min-n.result ≡ count_of c.args.nd c.args.d.now c.args.at = c.min-n.ensures ∙ ap (λ (x : ℕ). min x c.args.nd) c.u32_at.ensures in (
       (λ i. lists (c.next_place.ensures.0 i) (c.store_list.ensures i)) ∙ (λ i. lists (next_of (e i) c.args.d.now c.args.at) (with_list c.args.ns (e i) c.args.d.now c.args.at c.args.words.now)),
       c.next_place.ensures.1,
     )

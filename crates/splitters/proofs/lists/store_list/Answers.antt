@@ -1,12 +1,8 @@
 -- `splitters::lists::store_list` meets its contract: the length and the entries behind it are the splitter's row. Assumes nothing.
 use mathlib.Core.Path.{◌∙◌}
 use native.Mathlib.Omega.{arith}
-use lib.ListN.{length-set}
 use Rattle.splitters.proofs.Stores.{list_stored, list_kept}
 use Rattle.splitters.proofs.lists.store_list.Goals as goal
-
-pub put_entries-requires : goal.put_entries-requires
-put_entries-requires c = (omega arith, omega arith, simp length-set (omega arith))
 
 pub returns-then-id-ns : goal.returns-then-id-ns
 returns-then-id-ns c =

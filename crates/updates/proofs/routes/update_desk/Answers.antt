@@ -7,15 +7,15 @@ use Rattle.updates.proofs.routes.update_desk.Goals as goal
 
 pub update_mixes-requires : goal.update_mixes-requires
 update_mixes-requires c =
-    subst (DeskUpdatable c.args.p) (sym c.update_splitters-size.ensures.floats_after) (lists_keep _ _ _ c.requires.fact_2)
+    subst (DeskUpdatable c.args.p) (sym c.update_splitters-size.ensures.floats_after) (lists_keep _ _ _ c.requires.updatable)
 
 pub overflow_add-at-2 : goal.overflow_add-at-2
 overflow_add-at-2 c =
-    omega (arith, c.update_splitters-size.ensures.value.1, c.requires.fact_1.splitters_at, c.requires.fact_1.mixes_size)
+    omega (arith, c.update_splitters-size.ensures.value.1, c.requires.near.splitters_at, c.requires.near.mixes_size)
 
 pub update_sinks-requires : goal.update_sinks-requires
 update_sinks-requires c =
-    let between = subst (DeskUpdatable c.args.p) (sym c.update_splitters-size.ensures.floats_after) (lists_keep _ _ _ c.requires.fact_2) in
+    let between = subst (DeskUpdatable c.args.p) (sym c.update_splitters-size.ensures.floats_after) (lists_keep _ _ _ c.requires.updatable) in
     subst (DeskUpdatable c.args.p) (sym c.update_mixes.ensures) (mixes_keep _ _ _ between)
 
 pub returns : goal.returns

@@ -6,7 +6,7 @@ use Rattle.updates.proofs.routes.update_mixes.Goals as goal
 
 pub mixes-requires : goal.mixes-requires
 mixes-requires c =
-    let e = c.places_of-at.ensures.1 in record { fact_1 = (omega (arith, e.mixes, e.mix_words_lem, c.requires.words), omega (arith, e.mixes, e.mix_floats_lem, c.requires.floats)); fact_2 = mixes_found c.args.p c.args.d.now (desk c.args.words.now c.args.floats.now) e.mixes e.mix_words_lem e.mix_floats_lem c.requires }
+    let e = c.places_of-at.ensures.1 in record { inside = (omega (arith, e.mixes, e.mix_words_lem, c.requires.words), omega (arith, e.mixes, e.mix_floats_lem, c.requires.floats)); sized = mixes_found c.args.p c.args.d.now (desk c.args.words.now c.args.floats.now) e.mixes e.mix_words_lem e.mix_floats_lem c.requires }
 
 pub returns : goal.returns
 returns c =

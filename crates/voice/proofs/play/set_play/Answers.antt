@@ -1,21 +1,28 @@
 -- `voice::set_play` meets its contract: each way out is a case of the request and of the play mark. Assumes nothing.
+use Rattle.std.proofs.Common.{◌≡◌, ◌≢◌, refl, ◌∙◌, arith}
+use Rattle.voice.specs.declared.play.Play.{Play}
+use Rattle.voice.specs.declared.play.Play.TheVariants.{Started, Stopped, Stopping, Paused}
 use Rattle.voice.specs.Laws.{play_started, play_stopped, play_paused}
+use Rattle.voice.specs.Play.{stop_play}
 use Rattle.voice.proofs.play.set_play.Goals as goal
 
-pub returns-then-requested-eq0 : goal.returns-then-requested-eq0
-returns-then-requested-eq0 c = play_started _ _ c.if-requested-eq0.true
+stops : (p : Play) → (p ≡ Stopped → ⊥) → Stopping ≡ stop_play p
+stops Started h = refl
+stops Stopped h = absurd (h refl)
+stops Stopping h = refl
+stops Paused h = refl
+
+pub returns-in-0 : goal.returns-in-0
+returns-in-0 c = play_started _ _ c.in-0.is
 
 pub returns-in-Stopped : goal.returns-in-Stopped
-returns-in-Stopped c = play_stopped _ c.if-requested-eq1.true c.in-Stopped.is
+returns-in-Stopped c = play_stopped _ c.in-1.is c.in-Stopped.is
 
-pub returns-in-Started : goal.returns-in-Started
-returns-in-Started c = play_stopped _ c.if-requested-eq1.true c.in-Started.is
+pub returns-in_default-play : goal.returns-in_default-play
+returns-in_default-play c = stops c.args.play c.in_default-play.not-Stopped ∙ play_stopped _ c.in-1.is refl
 
-pub returns-in-Stopping : goal.returns-in-Stopping
-returns-in-Stopping c = play_stopped _ c.if-requested-eq1.true c.in-Stopping.is
-
-pub returns-in-Paused : goal.returns-in-Paused
-returns-in-Paused c = play_stopped _ c.if-requested-eq1.true c.in-Paused.is
-
-pub returns : goal.returns
-returns c = play_paused _ _ c.if-requested-eq0.false c.if-requested-eq1.false
+pub returns-in_default : goal.returns-in_default
+returns-in_default c =
+    let ne0 : c.args.requested ≢ 0 = omega arith in
+    let ne1 : c.args.requested ≢ 1 = omega arith in
+    play_paused _ _ ne0 ne1

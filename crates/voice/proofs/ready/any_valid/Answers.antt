@@ -1,20 +1,16 @@
--- `voice::any_valid` meets its contract: the first of the four that is true decides, or the last. Assumes nothing.
-use Rattle.std.proofs.Common.{refl}
-use Rattle.voice.specs.Slots.{Four, is_four, any_four}
+-- `voice::any_valid` meets its contract: it asks each mark in turn. Assumes nothing.
+use Rattle.std.proofs.Common.{◌≡◌, Bool, ◌||◌, List, [], ◌∷◌, refl, ap, ◌∙◌, rules, tests}
+use Rattle.std.specs.List.{list_any}
+use Rattle.std.proofs.lemmas.Iterator.{YieldsList-from_slice}
+use Rattle.std.proofs.lemmas.Iterator.Search.{any_from_yields_List}
+use Rattle.voice.specs.Prepare.{any_of}
 use Rattle.voice.proofs.ready.any_valid.Goals as goal
-use Rattle.voice.proofs.ready.any_valid.Goals.{Start}
 
-four_valid : (c : Start) → Four c.args.q.valid
-four_valid c = is_four c.args.q.valid (c.well_formed.0.1.1.1.0.1.0.1)
-
-pub returns-then-v : goal.returns-then-v
-returns-then-v c = any_four (four_valid (goal.at.returns-then-v c).Start) c.if-v.true refl refl
-
-pub returns-then-v-2 : goal.returns-then-v-2
-returns-then-v-2 c = any_four (four_valid (goal.at.returns-then-v-2 c).Start) c.if-v.false c.if-v-2.true refl
-
-pub returns-then-v-3 : goal.returns-then-v-3
-returns-then-v-3 c = any_four (four_valid (goal.at.returns-then-v-3 c).Start) c.if-v.false c.if-v-2.false c.if-v-3.true
+any_same : (vs : List Bool) → list_any (λ b. b) vs ≡ any_of vs
+any_same [] = refl
+any_same (v ∷ vs) = ap (λ (b : Bool). v || b) (any_same vs)
 
 pub returns : goal.returns
-returns c = any_four (four_valid (goal.at.returns c).Start) c.if-v.false c.if-v-2.false c.if-v-3.false
+returns c =
+    let vs = c.args.q.valid in
+    any_from_yields_List (λ (b : Bool). b) _ _ _ c.any.ensures.ran (YieldsList-from_slice vs cc) (λ x b q k. search (rules, tests)) ∙ any_same vs

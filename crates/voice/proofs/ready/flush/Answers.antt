@@ -1,5 +1,5 @@
 -- `voice::flush` meets its contract: below five turns it is the walk, else the walk of four and the rest worked out. Assumes nothing.
-use Rattle.std.proofs.Common.{◌∙◌, arith}
+use Rattle.std.proofs.Common.{refl, ◌∙◌, arith}
 use Rattle.voice.proofs.LongFlush.{flush_rest}
 use Rattle.voice.proofs.ready.flush.Goals as goal
 
@@ -10,4 +10,8 @@ pub returns : goal.returns
 returns c =
     let q = c.args.q in
     let lb = c.well_formed.0.1.1.0.1.0.1 in
-    let lv = c.well_formed.0.1.1.1.0.1.0.1 in record { queue_value = flush_rest q lb lv c.args.count c.args.base c.requires (omega arith) c.walk-f.ensures.queue_value c.wrapping_add_u32.ensures.value c.wrapping_add_u32-2.ensures.value; turns_value = c.walk-f.ensures.turns_value ∙ omega arith }
+    let lv = c.well_formed.0.1.1.1.0.1.0.1 in
+    record {
+      queue_value = flush_rest q lb lv c.args.count c.args.base c.requires (omega arith) c.walk-turns.ensures.queue_value refl refl;
+      turns_value = c.walk-turns.ensures.turns_value ∙ omega arith;
+    }

@@ -6,11 +6,8 @@ use Rattle.voice.proofs.ready.promote.Goals as goal
 pub loop-k-init : goal.loop-k-init
 loop-k-init c = (omega arith, promote_begin _)
 
-pub loop-k-smaller : goal.loop-k-smaller
-loop-k-smaller c = omega arith
-
 pub loop-k-preserved : goal.loop-k-preserved
-loop-k-preserved c = (omega arith, promote_more _ _ c.loop-k.invariant.1 c.promote_slot-w.ensures)
+loop-k-preserved c = (omega arith, promote_more _ _ c.loop-k.invariant.1 c.promote_slot-q.ensures)
 
 pub returns : goal.returns
 returns c =

@@ -2,8 +2,8 @@
 use Rattle.voice.specs.Slots.{promote_pending, promote_settled}
 use Rattle.voice.proofs.ready.promote_slot.Goals as goal
 
-pub returns-then-b : goal.returns-then-b
-returns-then-b c = promote_pending c.args.q c.args.k c.if-b.true
+pub returns-then-q-k : goal.returns-then-q-k
+returns-then-q-k c = promote_pending c.args.q c.args.k c.if-q-k.true
 
-pub returns-else-b : goal.returns-else-b
-returns-else-b c = promote_settled c.args.q c.args.k c.if-b.false
+pub returns-else-q-k : goal.returns-else-q-k
+returns-else-q-k c = promote_settled c.args.q c.args.k c.if-q-k.false

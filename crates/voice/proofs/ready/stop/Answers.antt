@@ -6,14 +6,11 @@ use Rattle.voice.proofs.ready.stop.Goals as goal
 pub loop-k-init : goal.loop-k-init
 loop-k-init c = stop_begin _ c.requires
 
-pub stop_slot-w-requires : goal.stop_slot-w-requires
-stop_slot-w-requires c = record { k_bound = omega arith; index_bound = c.loop-k.invariant.index }
-
-pub loop-k-smaller : goal.loop-k-smaller
-loop-k-smaller c = omega arith
+pub stop_slot-q-requires : goal.stop_slot-q-requires
+stop_slot-q-requires c = record { k_bound = omega arith; index_bound = c.loop-k.invariant.index }
 
 pub loop-k-preserved : goal.loop-k-preserved
-loop-k-preserved c = stop_more _ _ c.loop-k-test.true c.loop-k.invariant c.stop_slot-w.ensures
+loop-k-preserved c = stop_more _ _ c.loop-k-test.true c.loop-k.invariant c.stop_slot-q.ensures
 
 pub returns : goal.returns
 returns c =

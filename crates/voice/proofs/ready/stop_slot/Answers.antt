@@ -5,7 +5,7 @@ use Rattle.voice.proofs.ready.stop_slot.Goals as goal
 
 pub returns-then-was : goal.returns-then-was
 returns-then-was c =
-    stop_made c.args.q c.args.k c.if-was.true c.next_slot.ensures c.wrapping_add_u32.ensures.value
+    stop_made c.args.q c.args.k c.if-was.true c.next_slot.ensures refl
 
 pub returns-else-was : goal.returns-else-was
 returns-else-was c = stop_made c.args.q c.args.k c.if-was.false refl refl

@@ -6,18 +6,12 @@ use Rattle.voice.proofs.ready.walk.Goals as goal
 pub loop-turn-init : goal.loop-turn-init
 loop-turn-init c = flush_begin _ _ _ c.requires
 
-pub flush_slot-w-requires : goal.flush_slot-w-requires
-flush_slot-w-requires c = c.loop-turn.invariant.inside
-
-pub overflow_add-turn : goal.overflow_add-turn
-overflow_add-turn c = omega arith
-
-pub loop-turn-smaller : goal.loop-turn-smaller
-loop-turn-smaller c = omega arith
+pub flush_slot-q-requires : goal.flush_slot-q-requires
+flush_slot-q-requires c = c.loop-turn.invariant.inside
 
 pub loop-turn-preserved : goal.loop-turn-preserved
 loop-turn-preserved c =
-    flush_more _ _ _ _ _ c.loop-turn-test.true c.loop-turn.invariant c.flush_slot-w.ensures c.next_slot-slot.ensures
+    flush_more _ _ _ _ _ c.loop-turn-test.true c.loop-turn.invariant c.flush_slot-q.ensures c.next_slot-slot.ensures
 
 pub returns : goal.returns
 returns c =

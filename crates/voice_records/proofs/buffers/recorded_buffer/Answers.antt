@@ -8,13 +8,13 @@ use Rattle.voice_records.proofs.buffers.recorded_buffer.Goals.{After-offsets_val
 tried : (c : After-offsets_valid) (valid : Bool) → c.offsets_valid.result ≡ valid
     → cond valid c.parse-wb.result c.args.old ≡ recorded_buffer c.args.format c.args.p.now c.args.b c.args.old
 tried c valid e =
-    buffer_tried valid _ _ _ _ c.section-w.ensures c.byte_at.ensures c.if-byte_at-eq0.true c.parse-wb.ensures c.offsets_valid.ensures e
+    buffer_tried valid _ _ _ _ c.section-w.ensures c.byte_at.ensures c.if-byte_at-ne0.false c.parse-wb.ensures c.offsets_valid.ensures e
+
+pub returns-then-byte_at-ne0 : goal.returns-then-byte_at-ne0
+returns-then-byte_at-ne0 c = buffer_sent _ _ _ _ c.section-w.ensures c.byte_at.ensures c.if-byte_at-ne0.true
 
 pub returns-then-offsets_valid : goal.returns-then-offsets_valid
 returns-then-offsets_valid c = tried (goal.at.returns-then-offsets_valid c).After-offsets_valid true c.if-offsets_valid.true
 
-pub returns-then-byte_at-eq0 : goal.returns-then-byte_at-eq0
-returns-then-byte_at-eq0 c = tried (goal.at.returns-then-byte_at-eq0 c).After-offsets_valid false c.if-offsets_valid.false
-
-pub returns : goal.returns
-returns c = buffer_sent _ _ _ _ c.section-w.ensures c.byte_at.ensures c.if-byte_at-eq0.false
+pub returns-else-offsets_valid : goal.returns-else-offsets_valid
+returns-else-offsets_valid c = tried (goal.at.returns-else-offsets_valid c).After-offsets_valid false c.if-offsets_valid.false

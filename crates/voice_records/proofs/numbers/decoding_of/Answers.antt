@@ -7,6 +7,6 @@ pub returns-then-revision-ge5 : goal.returns-then-revision-ge5
 unfolding decoding_of
 returns-then-revision-ge5 c = since_new 5 _ _ c.if-revision-ge5.true c.u16_at.ensures
 
-pub returns : goal.returns
+pub returns-else-revision-ge5 : goal.returns-else-revision-ge5
 unfolding decoding_of
-returns c = since_old 5 _ _ _ c.if-revision-ge5.false
+returns-else-revision-ge5 c = since_old 5 _ _ _ c.if-revision-ge5.false

@@ -7,6 +7,6 @@ pub returns-then-revision-ge2 : goal.returns-then-revision-ge2
 unfolding splitter_of
 returns-then-revision-ge2 c = since_new 2 _ _ c.if-revision-ge2.true c.u32_at.ensures
 
-pub returns : goal.returns
+pub returns-else-revision-ge2 : goal.returns-else-revision-ge2
 unfolding splitter_of
-returns c = since_old 2 _ _ _ c.if-revision-ge2.false
+returns-else-revision-ge2 c = since_old 2 _ _ _ c.if-revision-ge2.false

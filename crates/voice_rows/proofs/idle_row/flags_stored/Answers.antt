@@ -1,18 +1,11 @@
 -- `idle_row::flags_stored` meets its contract: each flag is tested. Assumes nothing.
-use mathlib.Core.Path.{sym, subst}
-use native.Mathlib.Omega.{arith}
-use lib.Dec.{T}
-use Rattle.voice_rows.proofs.Tested.{none, more, passed}
+use Rattle.std.proofs.Common.{◌+◌, ◌≤◌, get_or, rules, tests, refl}
+use Rattle.std.specs.Bool.{⊤}
+use Rattle.std.proofs.lemmas.Iterator.{cases_from_all, YieldsList-from_range}
+use Rattle.voice_rows.proofs.Each.{each_of_four}
 use Rattle.voice_rows.proofs.idle_row.flags_stored.Goals as goal
 
-pub loop-k-init : goal.loop-k-init
-loop-k-init c = none _
-
-pub returns-then-words-at-gt1 : goal.returns-then-words-at-gt1
-returns-then-words-at-gt1 c = λ h. absurd (subst T (sym h) tt)
-
-pub loop-k-preserved : goal.loop-k-preserved
-loop-k-preserved c = more c.loop-k.invariant (omega arith) (omega arith)
-
 pub returns : goal.returns
-returns c = λ h. passed c.loop-k.invariant (omega arith)
+returns c =
+    each_of_four _ _ (cases_from_all _ _ _ (λ k. get_or c.args.words.now (c.args.at + k) 0 ≤ 1) (λ _. ⊤) c.all.ensures.ran
+    (YieldsList-from_range 0 4 4 refl refl) (λ x r k. search (rules, tests)) (λ x r k. tt))

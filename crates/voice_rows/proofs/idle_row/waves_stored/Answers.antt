@@ -1,19 +1,12 @@
 -- `idle_row::waves_stored` meets its contract: each wave buffer is tested. Assumes nothing.
-use mathlib.Core.Path.{sym, subst}
-use native.Mathlib.Omega.{arith}
-use lib.Dec.{T}
-use Rattle.voice_rows.proofs.Tested.{none, more, passed}
+use Rattle.std.proofs.Common.{◌+◌, ◌*◌, rules, tests, refl}
+use Rattle.std.specs.Bool.{⊤}
+use Rattle.std.proofs.lemmas.Iterator.{cases_from_all, YieldsList-from_range}
+use Rattle.voice_rows.specs.IdleRow.{StoredWave}
+use Rattle.voice_rows.proofs.Each.{each_of_four}
 use Rattle.voice_rows.proofs.idle_row.waves_stored.Goals as goal
 
-pub loop-b-init : goal.loop-b-init
-loop-b-init c = none _
-
-pub returns-then-not-wave_stored : goal.returns-then-not-wave_stored
-returns-then-not-wave_stored c = λ h. absurd (subst T (sym h) tt)
-
-pub loop-b-preserved : goal.loop-b-preserved
-loop-b-preserved c =
-    more c.loop-b.invariant c.loop-b-test.true (c.wave_stored.ensures c.if-not-wave_stored.false)
-
 pub returns : goal.returns
-returns c = λ h. passed c.loop-b.invariant (omega arith)
+returns c =
+    each_of_four _ _ (cases_from_all _ _ _ (λ b. StoredWave c.args.words.now (c.args.at + b * 8)) (λ _. ⊤) c.all.ensures.ran
+    (YieldsList-from_range 0 4 4 refl refl) (λ x r k. search (rules, tests)) (λ x r k. tt))

@@ -4,14 +4,14 @@ use native.Mathlib.Omega.{arith}
 use Rattle.voice_rows.specs.VoiceRow.{voice_made}
 use Rattle.voice_rows.proofs.voice_row.load_voice.Goals as goal
 
-pub load_wave-b2-requires : goal.load_wave-b2-requires
-load_wave-b2-requires c = omega (arith, c.requires)
+pub load_wave-requires-3 : goal.load_wave-requires-3
+load_wave-requires-3 c = omega (arith, c.requires)
 
-pub load_wave-b3-requires : goal.load_wave-b3-requires
-load_wave-b3-requires c = omega (arith, c.requires)
+pub load_wave-requires-4 : goal.load_wave-requires-4
+load_wave-requires-4 c = omega (arith, c.requires)
 
 pub returns : goal.returns
 returns c =
     c.voice_of.ensures
-    ∙ voice_made c.args.words.now c.args.longs.now c.args.floats.now c.copy_out_u32.ensures c.copy_out_u64.ensures c.copy_out_f32.ensures c.play_of-play.ensures
-    c.load_wave-b0.ensures c.load_wave-b1.ensures c.load_wave-b2.ensures c.load_wave-b3.ensures
+    ∙ voice_made c.args.words.now c.args.longs.now c.args.floats.now c.copy_out.ensures c.copy_out-2.ensures c.copy_out-3.ensures c.play_of.ensures
+    c.load_wave.ensures c.load_wave-2.ensures c.load_wave-3.ensures c.load_wave-4.ensures

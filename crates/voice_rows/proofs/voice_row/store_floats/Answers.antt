@@ -6,4 +6,4 @@ use Rattle.voice_rows.proofs.voice_row.store_floats.Goals as goal
 
 pub returns : goal.returns
 unfolding floats_of
-returns c = c.copy_in_f32.ensures ∙ ap (put _ _) c.floats_of-row.ensures
+returns c = c.copy_in.ensures ∙ ap (put _ _) c.floats_of.ensures

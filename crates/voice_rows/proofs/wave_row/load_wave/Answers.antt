@@ -5,4 +5,4 @@ use Rattle.voice_rows.proofs.wave_row.load_wave.Goals as goal
 
 pub returns : goal.returns
 unfolding wave_of
-returns c = c.wave_of.ensures ∙ (λ i. wave_of (c.copy_out_u32.ensures i) (c.copy_out_u64.ensures i))
+returns c = c.wave_of.ensures ∙ (λ i. wave_of (c.copy_out.ensures i) (c.copy_out-2.ensures i))

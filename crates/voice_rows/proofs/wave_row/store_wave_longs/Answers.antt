@@ -6,4 +6,4 @@ use Rattle.voice_rows.proofs.wave_row.store_wave_longs.Goals as goal
 
 pub returns : goal.returns
 unfolding longs_of_wave
-returns c = c.copy_in_u64.ensures ∙ ap (put _ _) c.longs_of_wave-row.ensures
+returns c = c.copy_in.ensures ∙ ap (put _ _) c.longs_of_wave.ensures

@@ -6,4 +6,4 @@ use Rattle.voice_rows.proofs.wave_row.store_wave_words.Goals as goal
 
 pub returns : goal.returns
 unfolding words_of_wave
-returns c = c.copy_in_u32.ensures ∙ ap (put _ _) c.words_of_wave-row.ensures
+returns c = c.copy_in.ensures ∙ ap (put _ _) c.words_of_wave.ensures

@@ -1,8 +1,7 @@
 -- `gains::take_over` meets its contract: `Turning` holds at each turn. Assumes nothing.
-use mathlib.Core.Path.{refl, ap, ◌∙◌}
-use Prim.Native.Nat.{ℕ}
+use mathlib.Core.Path.{refl}
 use native.Mathlib.Omega.{arith}
-use Rattle.voice_sends.specs.Sending.{taken, taken_over}
+use Rattle.voice_sends.specs.Sending.{taken_over}
 use Rattle.rows.specs.Loops.{turn_begin, turn_more, turn_end}
 use Rattle.voice_sends.specs.Laws.{taken_keeps}
 use Rattle.voice_sends.proofs.gains.take_over.Goals as goal
@@ -14,7 +13,7 @@ pub loop-c-preserved : goal.loop-c-preserved
 loop-c-preserved c =
     let l = c.loop-c in
     turn_more l.invariant (omega arith) (taken_keeps _ _ (c.requires.fact_1.each l.c (omega arith)))
-    (c.take_row.ensures ∙ ap (λ (i : ℕ). taken i l.resources) c.resource_of-id.ensures.0)
+    c.take_row.ensures
 
 pub returns : goal.returns
 unfolding taken_over

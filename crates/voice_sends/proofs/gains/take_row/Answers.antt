@@ -6,4 +6,4 @@ use Rattle.voice_sends.proofs.gains.take_row.Goals as goal
 
 pub returns : goal.returns
 unfolding taken
-returns c = c.copy_in_f32.ensures ∙ ap (put _ _) c.copy_out_f32.ensures
+returns c = c.copy_in.ensures ∙ ap (put _ _) c.copy_out.ensures

@@ -10,20 +10,20 @@ use Rattle.voice_sends.proofs.splitter.send_destination.Goals.{Else-not-configur
 
 -- past the first test
 is_configured : (c : Else-not-configured)
-    → configured_of c.args.ns c.args.nd c.args.lists.now c.args.d ≡ true
+    → configured_of c.args.desk.now.lists.ns c.args.desk.now.lists.nd c.args.desk.now.lists.words.now c.args.d ≡ true
 is_configured c = sym c.configured.ensures ∙ c.if-not-configured.false
 
 pub returns-then-not-configured : goal.returns-then-not-configured
 returns-then-not-configured c = not_configured _ _ _ _ _ _ _ _ _ _ _ (sym c.configured.ensures ∙ c.if-not-configured.true)
 
 pub destination_mix-m-requires : goal.destination_mix-m-requires
-destination_mix-m-requires c = record { lists = c.requires.fact_3; d_lt_nd = configured_inside _ _ _ _ (is_configured c) }
+destination_mix-m-requires c = configured_inside _ _ _ _ (is_configured c)
 
-pub returns-then-m-nm : goal.returns-then-m-nm
-returns-then-m-nm c = not_its_mix _ _ _ _ _ _ _ _ _ _ _ (is_configured (goal.at.returns-then-m-nm c).Else-not-configured) c.destination_mix-m.ensures (omega arith)
+pub returns-then-m-desk : goal.returns-then-m-desk
+returns-then-m-desk c = not_its_mix _ _ _ _ _ _ _ _ _ _ _ (is_configured (goal.at.returns-then-m-desk c).Else-not-configured) c.destination_mix-m.ensures (omega arith)
 
 pub send_channel-requires : goal.send_channel-requires
-send_channel-requires c = record { fact_1 = c.requires.fact_1; fact_2 = c.requires.fact_2; fact_3 = omega (arith, c.requires, configured_inside c.args.ns c.args.nd c.args.lists.now c.args.d (is_configured (goal.at.send_channel-requires c).Else-not-configured)) }
+send_channel-requires c = omega (arith, c.requires, configured_inside _ _ _ _ (is_configured (goal.at.send_channel-requires c).Else-not-configured))
 
 pub returns : goal.returns
 returns c =

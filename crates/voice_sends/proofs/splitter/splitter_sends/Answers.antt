@@ -9,9 +9,6 @@ use Rattle.voice_sends.proofs.splitter.splitter_sends.Goals as goal
 pub loop-c-init : goal.loop-c-init
 loop-c-init c = turn_begin _ _ _ _ (record { buffers = refl; gains = omega arith })
 
-pub send_list-requires : goal.send_list-requires
-send_list-requires c = record { fact_1 = c.requires.fact_1; fact_2 = c.requires.fact_2; fact_3 = c.requires.fact_3; fact_4 = omega arith }
-
 pub loop-c-preserved : goal.loop-c-preserved
 loop-c-preserved c = turn_more c.loop-c.invariant (omega arith) (list_keeps _ _ _ _ _ _ _ _ _ _ _) c.send_list.ensures
 

@@ -12,7 +12,7 @@ returns c = record {
       (c.u32_at-voices_size.ensures k)
       (c.u32_at-resources_size.ensures k)
       (c.u32_at-effects_size.ensures k)
-      (c.u32_at-mixes_size.ensures k)
-      (c.u32_at-sinks_size.ensures k);
+      (c.u32_at.ensures k)
+      (c.u32_at-2.ensures k);
   near = laid_near _ _ _ _ _ _ _ (omega arith) (omega arith) (omega arith) (omega arith) (omega arith) (omega arith) (omega arith);
 }

@@ -5,13 +5,13 @@ use Rattle.voice.proofs.wave.WaveBuffer.parse.Goals as goal
 pub returns : goal.returns
 returns c =
     parse_made _
-    c.u64_at-addr.ensures
-    c.u64_at-size.ensures
-    c.u32_at-start.ensures
-    c.u32_at-end.ensures
-    c.flag_at-looping.ensures
-    c.flag_at-end_of_stream.ensures
-    c.u32_at-loop_count.ensures
-    c.u64_at-context.ensures
-    c.u32_at-loop_start.ensures
-    c.u32_at-loop_end.ensures
+    c.u64_at.ensures
+    c.u64_at-2.ensures
+    c.u32_at.ensures
+    c.u32_at-2.ensures
+    c.flag_at.ensures
+    c.flag_at-2.ensures
+    c.u32_at-3.ensures
+    c.u64_at-3.ensures
+    c.u32_at-4.ensures
+    c.u32_at-5.ensures

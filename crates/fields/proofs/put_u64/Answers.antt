@@ -1,0 +1,6 @@
+-- `fields::put_u64` meets its contract: the bytes are the number's own. Assumes nothing.
+use Rattle.fields.proofs.Bytes.{own_bytes}
+use Rattle.fields.proofs.put_u64.Goals as goal
+
+pub returns : goal.returns
+returns c = cc (own_bytes 8 c.args.v)

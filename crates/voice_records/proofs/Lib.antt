@@ -1,0 +1,2 @@
+pub mod FromFn
+pub mod Zeros
