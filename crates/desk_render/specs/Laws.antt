@@ -32,6 +32,14 @@ module _ {p : Params} {at : Places} (e : At p at) (words : List ℕ) where
       → Lists p.splitters p.splitter_destinations (take (at.words - at.list_words) (drop at.list_words words))
   lists_lent_lem h = rw lists_is h
 
+  -- the order of the rows that stand at the state's places
+  pub ordered_rows : {r : MixOrder}
+      → r ≡ listed_of (mix_order at.mixes p.splitters p.splitter_destinations (take (at.sink_words - at.mix_words) (drop at.mix_words words))
+      (take (at.words - at.list_words) (drop at.list_words words)))
+      → r ≡ listed_of (order_by p words)
+  unfolding order_by
+  ordered_rows q = q ∙ (λ i. listed_of (mix_order (e.mixes i) p.splitters p.splitter_destinations (mixes_is i) (lists_is i)))
+
 -- the order of a desk
 pub ordered : {p : Params} {words : List ℕ} {desk : Desk} → DeskOf p words desk → {r : MixOrder}
     → r ≡ listed_of (mix_order desk.mixes.n desk.lists.ns desk.lists.nd desk.mixes.words.now desk.lists.words.now)
@@ -69,6 +77,18 @@ module _ {p : Params} {at : Places} (e : At p at) {words : List ℕ} {floats : L
       q
       ∙ (λ i.
       mixed_down (s i) (d.mixes i) (d.mix_words i) (volumes_is i) (d.splitters i) (d.destinations i) (d.list_words i) (destinations_is i) buffers)
+
+  -- the same of the rows that stand at the state's places
+  pub mixed_rows : (buffers : List Float) {b : List Float}
+      → b ≡ mixed_down p.sample_count at.mixes (take (at.sink_words - at.mix_words) (drop at.mix_words words))
+      (take (at.sink_floats - at.mix_floats) (drop at.mix_floats floats)) p.splitters p.splitter_destinations (take (at.words - at.list_words) (drop at.list_words words))
+      (take (at.floats - at.destination_floats) (drop at.destination_floats floats)) buffers
+      → b ≡ mixed_by p words floats buffers
+  unfolding mixed_by
+  mixed_rows buffers q =
+      q
+      ∙ (λ i.
+      mixed_down p.sample_count (e.mixes i) (mixes_is e words i) (volumes_is i) p.splitters p.splitter_destinations (lists_is e words i) (destinations_is i) buffers)
 
   -- ---- the frames
 

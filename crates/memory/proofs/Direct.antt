@@ -3,7 +3,7 @@ use Prim.Native.Nat.{ℕ, ◌+◌, ◌-◌, ◌%◌, ◌^◌, ◌≤◌, ◌<◌
 use native.Mathlib.Omega.{arith}
 use mathlib.Core.Bool.{true, false}
 use mathlib.Core.Logic.{⊎_elim}
-use mathlib.Core.List.{List, ◌∷◌, ◌++◌, append-nil}
+use mathlib.Core.List.{List, [], ◌∷◌, ◌++◌, append-nil}
 use mathlib.Core.Path.{◌≡◌, ap, sym, subst, ◌∙◌}
 use borrow.Author.Tests.{eq-eqb}
 use lib.ListN.{length, take, drop}
@@ -76,3 +76,10 @@ unfolding readable_of
 direct_read m short {rs = rs} ascending addr len is fits =
     let d = direct m short ascending addr len is fits in
     (d.inside, eq-eqb (left_of rs addr len) 0 d.left, read_of_lem m rs addr len d.left ∙ d.bytes)
+
+-- a read of no byte succeeds at any address, also at one that no range has, and gives none
+pub empty_read : (m : List ℕ) (rs : List Range) (addr : ℕ) → (readable_of rs addr 0 ≡ true) × (read_of rs m addr 0 ≡ [])
+unfolding readable_of
+empty_read m rs addr =
+    let none = left_none rs addr in
+    (eq-eqb (left_of rs addr 0) 0 none, read_of_lem m rs addr 0 none ∙ bytes_none rs m addr)
