@@ -1,8 +1,9 @@
 -- A run over the calls: before each, the lines that are still to be printed are those of the calls that are left. Assumes nothing.
 use mathlib.Core.Path.{◌≡◌, refl, ap, sym, subst, ◌∙◌}
+use mathlib.Core.Bool.{Bool, true, false, cond}
 use mathlib.Core.List.{List, [], ◌∷◌}
 use Rattle.std.specs.Prelude.{Option, Some, None}
-use Prim.Native.Nat.{ℕ, zero, suc, ◌+◌, ◌-◌, ◌≤◌, ◌<◌}
+use Prim.Native.Nat.{ℕ, suc, ◌+◌, ◌-◌, ◌≤◌, ◌<◌}
 use native.Mathlib.Omega.{arith}
 use lib.ListN.{length, drop, length-drop}
 use lib.Seq.{drop-drop}
@@ -10,7 +11,7 @@ use Rattle.fields.specs.Fields.{rest_of}
 use Rattle.session.specs.Input.{memory_of, call_count, calls_at, calls_of, call_of, size_of}
 use Rattle.session.specs.Calls.{size_inside}
 use Rattle.session_calls.specs.Steps.{Held}
-use Rattle.session_run.specs.Lines.{first_step, onward, call_lines, lines_of, LineAt, next_of, Turned, turned, turn_of}
+use Rattle.session_run.specs.Lines.{first_step, onward, call_lines, lines_of, LineAt, turn_of, Told, told, told_of}
 use Rattle.session_run.proofs.Printed.{at_front, behind}
 
 -- of the input d's run, k lines are printed, and `left` calls are to come from `at` on with what is held, h
@@ -45,46 +46,60 @@ abbrev or_size : ℕ → Option ℕ → ℕ
 or_size z (Some n) = n
 or_size z None = z
 
-size_told : (n z : ℕ) → or_size z (next_of n z) ≡ z
-size_told zero z = refl
-size_told (suc n) z = refl
+size_told : (going : Bool) (z : ℕ) → or_size z (cond going (Some z) None) ≡ z
+size_told true z = refl
+size_told false z = refl
 
--- what a turn gave, as the match on it says
-pub found : {x y : Option ℕ} {u : Held} {t : Turned} → x ≡ y → turned x u ≡ t → turned y u ≡ t
-found {u = u} e told = ap (λ (z : Option ℕ). turned z u) (sym e) ∙ told
+-- the lines from where the next call begins, if there is one
+abbrev from_next : Option ℕ → (ℕ → List (List ℕ)) → List (List ℕ)
+from_next (Some size) lines = lines size
+from_next None lines = []
 
--- the lines behind the next call, by what it gives to the run
-abbrev following : List ℕ → ℕ → ℕ → Turned → List (List ℕ)
-following d at left t = onward t.next (λ size. call_lines (left - 1) (drop size (drop at (calls_of d))) (memory_of d) t.left)
+onward_told : (going : Bool) (size : ℕ) (lines : ℕ → List (List ℕ))
+    → onward going (lines size) ≡ from_next (cond going (Some size) None) lines
+onward_told true size lines = refl
+onward_told false size lines = refl
+
+-- what a turn tells the run, as the match on it says
+pub found : {x y : Option ℕ} {u : Held} {t : Told} → x ≡ y → told x u ≡ t → told y u ≡ t
+found {u = u} e is = ap (λ (z : Option ℕ). told z u) (sym e) ∙ is
+
+-- the lines behind the next call, by what it tells the run
+abbrev following : List ℕ → ℕ → ℕ → Told → List (List ℕ)
+following d at left t = from_next t.next (λ size. call_lines (left - 1) (drop size (drop at (calls_of d))) (memory_of d) t.left)
 
 module _ {d : List ℕ} {k at left : ℕ} {h : Held} (r : Running d k at left h) (some : 0 < left) where
-  front : drop k (lines_of d)
-      ≡ (first_step (drop at (calls_of d)) (memory_of d) h).line ∷ following d at left (turn_of (drop at (calls_of d)) (memory_of d) h)
+  front : drop k (lines_of d) ≡ (first_step (drop at (calls_of d)) (memory_of d) h).line
+      ∷ following d at left (told_of (turn_of (drop at (calls_of d)) (memory_of d) h))
   unfolding call_lines
   front =
       let e : left ≡ suc (left - 1) = omega arith in
-      r.same ∙ ap (λ (n : ℕ). call_lines n (drop at (calls_of d)) (memory_of d) h) e
+      let t = turn_of (drop at (calls_of d)) (memory_of d) h in
+      r.same
+      ∙ ap (λ (n : ℕ). call_lines n (drop at (calls_of d)) (memory_of d) h) e
+      ∙ ap (λ (lines : List (List ℕ)). (first_step (drop at (calls_of d)) (memory_of d) h).line ∷ lines)
+      (onward_told t.going t.size (λ size. call_lines (left - 1) (drop size (drop at (calls_of d))) (memory_of d) t.left))
 
   pub turn_line : LineAt (lines_of d) k (first_step (drop at (calls_of d)) (memory_of d) h).line
   turn_line = at_front (lines_of d) k front
 
   -- behind a turn, which printed a line
   module _ {m : ℕ} {u : Held} (em : m ≡ k + 1) where
-    rest : {next : Option ℕ} → turned next u ≡ turn_of (drop at (calls_of d)) (memory_of d) h
-        → drop m (lines_of d) ≡ following d at left (turned next u)
+    rest : {next : Option ℕ} → told next u ≡ told_of (turn_of (drop at (calls_of d)) (memory_of d) h)
+        → drop m (lines_of d) ≡ following d at left (told next u)
     rest e =
         ap (λ (n : ℕ). drop n (lines_of d)) em ∙ behind (lines_of d) k front ∙ sym (ap (following d at left) e)
 
     -- the run ends where the call was refused
-    pub turn_last : turned None u ≡ turn_of (drop at (calls_of d)) (memory_of d) h → m ≡ length (lines_of d)
+    pub turn_last : told None u ≡ told_of (turn_of (drop at (calls_of d)) (memory_of d) h) → m ≡ length (lines_of d)
     turn_last e = omega (arith, em, turn_line.there, length-drop m (lines_of d), ap length (rest e))
 
-    module _ {size : ℕ} (e : turned (Some size) u ≡ turn_of (drop at (calls_of d)) (memory_of d) h) where
+    module _ {size : ℕ} (e : told (Some size) u ≡ told_of (turn_of (drop at (calls_of d)) (memory_of d) h)) where
       size_is : size ≡ size_of (call_of (drop at (calls_of d)))
       unfolding turn_of
       size_is =
-          let z = size_of (call_of (drop at (calls_of d))) in
-          ap (λ (t : Turned). or_size z t.next) e ∙ size_told (first_step (drop at (calls_of d)) (memory_of d) h).number z
+          let t = turn_of (drop at (calls_of d)) (memory_of d) h in
+          ap (λ (x : Told). or_size t.size x.next) e ∙ size_told t.going t.size
 
       -- the next place is inside the input
       turn_inside : at + size ≤ length (calls_of d)

@@ -1,29 +1,23 @@
 -- A turn of a run: the call at a place in the input, as it was read and run, is the definition's. Assumes nothing.
-use mathlib.Core.Path.{◌≡◌, refl, ap, sym, ◌∙◌}
+use mathlib.Core.Path.{◌≡◌, ap, sym, ◌∙◌}
+use mathlib.Core.Bool.{Bool, cond}
 use mathlib.Core.List.{List}
 use Rattle.std.specs.Prelude.{Option, Some, None, MatchOption}
-use Prim.Native.Nat.{ℕ, zero, suc}
+use Prim.Native.Nat.{ℕ}
+use lib.Dec.{eqb}
 use lib.ListN.{take, drop}
 use Rattle.fields.specs.Fields.{rest_of}
 use Rattle.session.specs.declared.input.Call.{Call}
 use Rattle.session.specs.Input.{memory_of, calls_of, call_of, size_of}
 use Rattle.session.specs.Text.{text}
 use Rattle.session_calls.specs.Steps.{Held, call_step, Written, written, written_on}
-use Rattle.session_run.specs.Lines.{first_step, LineAt, next_of, turned, turn_of}
+use Rattle.session_run.specs.Lines.{first_step, LineAt, turned, turn_of, told, told_of}
 use Rattle.session_run.proofs.Printed.{due}
 
 -- the size of the call that was read, if one was
 pub size_known : (o : Option Call) {n : ℕ} → MatchOption o (n ≡ 0) (λ x. n ≡ size_of (Some x)) → n ≡ size_of o
 size_known (Some x) h = h
 size_known None h = h
-
--- where the next call begins, as the test of the number says it
-pub next_some : {n size : ℕ} → n ≡ 0 → Some size ≡ next_of n size
-next_some {n} {size} e = λ i. next_of (sym e i) size
-
-pub next_none : (n size : ℕ) → (n ≡ 0 → ⊥) → None ≡ next_of n size
-next_none zero size f = absurd (f refl)
-next_none (suc n) size f = refl
 
 -- the calls cs of the input, those from a place on, d, sample memory m, and the call at the front of d, which was run
 module _ (input : List ℕ) (at : ℕ) {cs d m : List ℕ} {call : Option Call} (ecs : cs ≡ calls_of input) (ed : d ≡ rest_of cs at)
@@ -45,9 +39,14 @@ module _ (input : List ℕ) (at : ℕ) {cs d m : List ℕ} {call : Option Call} 
       → LineAt lines k (take y x)
   turn_due due-line = due out due-line (ap (λ (w : Written). w.out) done)
 
-  pub turn_done : {size : ℕ} {next : Option ℕ} → size ≡ size_of call → next ≡ next_of n size
-      → turned next u ≡ turn_of (drop at (calls_of input)) (memory_of input) h
+  turn_done : {size : ℕ} → size ≡ size_of call → turned (eqb n 0) size u ≡ turn_of (drop at (calls_of input)) (memory_of input) h
   unfolding turn_of
-  turn_done es e =
+  turn_done es =
       let size_is = es ∙ ap size_of (ec ∙ ap call_of rest_is) in
-      ap (λ (x : Option ℕ). turned x u) e ∙ (λ i. turned (next_of (done i).number (size_is i)) (done i).left)
+      λ i. turned (eqb (done i).number 0) (size_is i) (done i).left
+
+  -- what the call tells the run, by whether that goes on
+  pub turn_told : {size : ℕ} (going : Bool) → size ≡ size_of call → eqb n 0 ≡ going
+      → told (cond going (Some size) None) u ≡ told_of (turn_of (drop at (calls_of input)) (memory_of input) h)
+  turn_told {size} going es e =
+      ap (λ (x : Bool). told (cond x (Some size) None) u) (sym e) ∙ ap told_of (turn_done es)

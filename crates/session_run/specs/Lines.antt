@@ -1,6 +1,7 @@
 -- The lines of a whole run (docs/QUESTIONS.md, "The session program"): question 10, the length call, the open, and then the calls up to the first
 -- refusal. Definitions only.
-use Rattle.std.specs.Prelude.{◌≡◌, Option, Some, None, cond, List, [], ◌∷◌, ℕ, zero, suc, ◌*◌, ◌<◌, Float, length, drop, get_or, replicate}
+use Rattle.std.specs.Prelude.{◌≡◌, Bool, true, false, cond, List, [], ◌∷◌, ℕ, zero, suc, ◌*◌, ◌<◌, eqb, Float, length, drop, get_or, replicate}
+use Rattle.std.specs.Prelude.{Option, Some, None}
 use Rattle.floats.specs.Defs.{zero32}
 use Rattle.params.specs.declared.params.Params.{Params}
 use Rattle.state.specs.State.{state_of}
@@ -17,28 +18,24 @@ unfoldable pub first_step : List ℕ → List ℕ → Held → Step
 unfolding call_of call_step
 first_step d memory h = call_step (call_of d) d memory h
 
--- how far on the next call begins, by a call's number and size: a refusal ends the run
-abbrev pub next_of : ℕ → ℕ → Option ℕ
-next_of zero size = Some size
-next_of (suc n) size = None
-
--- what a call gives to the run: how far on the next one begins, if the run goes on, and what is left
+-- what a call gives to the run: whether it goes on, which a refusal ends, the call's size, and what is left
 pub record Turned : Type 0 where
-  pub next : Option ℕ
+  pub going : Bool
+  pub size : ℕ
   pub left : Held
 
-abbrev pub turned : Option ℕ → Held → Turned
-turned next h = record { next = next; left = h }
+abbrev pub turned : Bool → ℕ → Held → Turned
+turned going size h = record { going = going; size = size; left = h }
 
 unfoldable pub turn_of : List ℕ → List ℕ → Held → Turned
 unfolding first_step call_of
 turn_of d memory h =
     let s = first_step d memory h in
-    turned (next_of s.number (size_of (call_of d))) s.left
+    turned (eqb s.number 0) (size_of (call_of d)) s.left
 
-abbrev pub onward : Option ℕ → (ℕ → List (List ℕ)) → List (List ℕ)
-onward (Some size) lines = lines size
-onward None lines = []
+abbrev pub onward : Bool → List (List ℕ) → List (List ℕ)
+onward true lines = lines
+onward false lines = []
 
 -- n calls from the front of d: each is handed what the call before it left, and the first refusal's line is the last
 unfoldable pub call_lines : ℕ → List ℕ → List ℕ → Held → List (List ℕ)
@@ -46,7 +43,22 @@ unfolding first_step turn_of
 call_lines zero d memory h = []
 call_lines (suc n) d memory h =
     let t = turn_of d memory h in
-    (first_step d memory h).line ∷ onward t.next (λ size. call_lines n (drop size d) memory t.left)
+    (first_step d memory h).line ∷ onward t.going (call_lines n (drop t.size d) memory t.left)
+
+-- how far on the call after one begins: by that one's size, if the run goes on
+abbrev pub next_of : Turned → Option ℕ
+next_of t = cond t.going (Some t.size) None
+
+-- what a call tells the run: how far on the next one begins, and what is left
+pub record Told : Type 0 where
+  pub next : Option ℕ
+  pub left : Held
+
+abbrev pub told : Option ℕ → Held → Told
+told next h = record { next = next; left = h }
+
+abbrev pub told_of : Turned → Told
+told_of t = told (next_of t) t.left
 
 -- ---- what comes before them
 

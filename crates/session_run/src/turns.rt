@@ -4,7 +4,7 @@ ghost use Rattle.state.specs.State.{state_of};
 ghost use Rattle.session.specs.Input.{call_count, calls_of, memory_of};
 ghost use Rattle.session.specs.Lines.{refused_line};
 ghost use Rattle.session_calls.specs.Steps.{held};
-ghost use Rattle.session_run.specs.Lines.{first_step, call_lines, lines_of, LineAt, turned, turn_of};
+ghost use Rattle.session_run.specs.Lines.{first_step, call_lines, lines_of, LineAt, turn_of, told, told_of};
 
 use crate::WriteFailed;
 use session::Call;
@@ -68,12 +68,12 @@ fn turn(
     requires line_at { LineAt (lines_of input.now) printed.old (first_step (drop at (calls_of input.now)) (memory_of input.now)
         (held (state_of words.old longs.old floats.old contexts.old history.old) frames.old reply.old)).line }
     ensures printed_after { OnOk result (printed.new ≡ printed.old + 1) }
-    ensures reply_after { IfOk result (λ next. turned next
+    ensures reply_after { IfOk result (λ next. told next
         (held (state_of words.new longs.new floats.new contexts.new history.new)
         frames.new reply.new)
-        ≡ turn_of (drop at (calls_of input.now)) (memory_of input.now)
+        ≡ told_of (turn_of (drop at (calls_of input.now)) (memory_of input.now)
         (held (state_of words.old longs.old floats.old contexts.old history.old)
-        frames.old reply.old)) }
+        frames.old reply.old))) }
     ensures err { OnErr result (printed.new ≡ printed.old) }
 {
     let d = fields::rest(session::calls(input), at);
