@@ -41,7 +41,9 @@ fn sample_at(width: usize, d: &[u8], o: usize) -> f32
     float_at(d, o)
 }
 
-// Channel c of n frames of samples of a width, into the front of out.
+// Channel c of n frames of samples of a width, into the front of out. Never inlined: its loop needs registers that the code around a call
+// holds.
+#[inline(never)]
 fn frames(width: usize, d: &[u8], channels: usize, c: usize, n: usize, out: &mut [f32])
     requires width_value { eqb width 2 || eqb width 4 ≡ true }
     requires channels_bound { (channels ≤ 6) × (c < 2 ^ 32) × (n < 2 ^ 32) × (n ≤ length out.old) }
