@@ -10,7 +10,7 @@ use Rattle.across.proofs.part.Goals.{Then-len-s}
 lie : (c : Then-len-s) → Lies (ranges_of c.args.memory.now.ranges.now) c.args.memory.now.bytes.now c.args.addr c.args.len c.in_ok-s.s
 lie c =
     lies c.args.memory.now.bytes.now (omega arith) c.args.memory.now.ascending c.args.addr c.args.len
-    (sym c.stretch_at.ensures ∙ c.in_ok-s.was) c.if-len-s.true
+    (sym c.stretch_at.ensures ∙ c.in_ok-s.was) (omega arith)
 
 pub overflow_add-end : goal.overflow_add-end
 overflow_add-end c = omega (arith, (lie (goal.at.overflow_add-end c).Then-len-s).inside)
